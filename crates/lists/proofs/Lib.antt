@@ -1,0 +1,7 @@
+-- The laws of the vocabulary of lists.
+pub mod Bools
+pub mod Members
+pub mod Tests
+pub mod Places
+pub mod Positions
+pub mod Distinct

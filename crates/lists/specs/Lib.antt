@@ -1,0 +1,2 @@
+-- The vocabulary of lists.
+pub mod Lists
