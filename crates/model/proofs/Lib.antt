@@ -1,0 +1,24 @@
+-- The theorems, in the order in which they build on each other. Demands states demands 2 and 3 for the calls; Sets and Rule that
+-- the definitions are the paper's; Numbers and Counts that the numbering is whole.
+pub mod Firing
+pub mod Rule
+pub mod Soundness
+pub mod Replay
+pub mod Unfolded
+pub mod Sets
+pub mod Numbers
+pub mod Counts
+pub mod Idle
+pub mod Laws
+pub mod Copies
+pub mod Project
+pub mod Repeats
+pub mod Lift
+pub mod Answers
+pub mod Limits
+pub mod Exchange
+pub mod ExchangeLift
+pub mod Earliest
+pub mod Demands
+pub mod Examples
+pub mod Premises

@@ -1,0 +1,126 @@
+-- The premises of the theorems can be met: each theorem is used here on one of the small nets, so that none speaks of nothing.
+use mathlib.Core.Path.{_≡_, refl}
+use mathlib.Core.Bool.{false}
+use mathlib.Core.Option.{none, some}
+use mathlib.Core.List.{[], _∷_}
+use Prim.Native.Nat.{ℕ}
+use lib.Dec.{T}
+use lib.ListN.{getElem?}
+use Rattle.model.specs.Net.{Sound, begin}
+use Rattle.model.specs.Runs.{runs, end, byEvent}
+use Rattle.model.specs.Unfolding.{copy, unfoldedConditions, unfoldedEvents, basic}
+use Rattle.model.specs.Numbering.{number}
+use Rattle.model.specs.Exchange.{exchanged}
+use Rattle.model.specs.Across.{other, run, refusal, tooLong, within, unfoldingRefused, earliest, lift, readBack, project, exchange}
+use Rattle.model.specs.Demands.{Lifts, Projects, FirstAgain, holdsAfter, Exchanged}
+use Rattle.model.specs.Examples.{_↝_, net, one, two, three, four, netA, netB, netC, netD, netE, netR, netL}
+use Rattle.model.proofs.Soundness.{sound, sound-of}
+use Rattle.model.proofs.Counts.{number-back}
+use Rattle.model.proofs.Limits.{Idlest, refused-13, refused-14}
+use Rattle.model.proofs.Demands.{lift-lifts, lift-again, project-projects, lift-project, unfolded-marking, exchange-exchanged, exchange-not-apart, exchange-lifts}
+
+-- ---- soundness of the nets
+
+pub sound-A : Sound (netA (one 0))
+unfolding netA net one two four sound
+sound-A = sound-of (netA (one 0)) tt
+
+pub sound-B : Sound netB
+unfolding netB net one two sound
+sound-B = sound-of netB tt
+
+pub sound-C : Sound netC
+unfolding netC net one sound
+sound-C = sound-of netC tt
+
+pub sound-D : Sound netD
+unfolding netD net one sound
+sound-D = sound-of netD tt
+
+pub sound-E : Sound (netE (two 0 1))
+unfolding netE net one two three sound
+sound-E = sound-of (netE (two 0 1)) tt
+
+-- ---- demand 2
+
+lift-A : lift (netA (one 0)) (four 0 1 2 1) ≡ run (four 0 2 3 2)
+unfolding lift netA one two four net
+lift-A = refl
+
+pub lifts-A : Lifts (netA (one 0)) (four 0 1 2 1) (four 0 2 3 2)
+lifts-A = lift-lifts (netA (one 0)) (four 0 1 2 1) (four 0 2 3 2) lift-A
+
+pub back-A : project (netA (one 0)) (four 0 2 3 2) ≡ run (four 0 1 2 1)
+back-A = lift-project (netA (one 0)) (four 0 1 2 1) (four 0 2 3 2) lift-A
+
+pub projects-A : Projects (netA (one 0)) (four 0 2 3 2) (four 0 1 2 1)
+projects-A = project-projects (netA (one 0)) sound-A (four 0 2 3 2) (four 0 1 2 1) back-A
+
+short-B : tooLong (two 0 0) ≡ none
+unfolding tooLong two
+short-B = refl
+
+unfolds-B : unfoldingRefused netB ≡ none
+unfolding unfoldingRefused netB net one two
+unfolds-B = refl
+
+again-B : lift netB (two 0 0) ≡ refusal (other 15 1)
+unfolding lift netB one two net
+again-B = refl
+
+-- An event that marks comes twice in net B's run, first at step 1.
+pub twice-B : FirstAgain netB (two 0 0) 1
+twice-B = lift-again netB (two 0 0) short-B unfolds-B 1 .0 again-B .1
+
+-- A copy holds at the end of net A's lifted run exactly if its marker has marked it.
+pub marking-A : (b : ℕ) → getElem? (unfoldedConditions (netA (one 0))) b ≡ some (copy 2 (byEvent 0) 1)
+    → end (basic (netA (one 0))) (begin (basic (netA (one 0)))) (four 0 2 3 2) b ≡ holdsAfter (netA (one 0)) (readBack (netA (one 0)) (four 0 2 3 2)) (copy 2 (byEvent 0) 1)
+marking-A b h = unfolded-marking (netA (one 0)) sound-A (four 0 2 3 2) (lifts-A .run) b (copy 2 (byEvent 0) 1) h
+
+-- ---- demand 3
+
+exchange-E : exchange (netE (three 0 1 2)) (three 0 1 2) 0 ≡ run (three 1 0 2)
+unfolding exchange netE one three net
+exchange-E = refl
+
+lift-E : lift (netE (three 0 1 2)) (three 0 1 2) ≡ run (three 0 1 2)
+unfolding lift netE one three net
+lift-E = refl
+
+pub exchanged-E : Exchanged (netE (three 0 1 2)) (earliest (netE (three 0 1 2))) (three 0 1 2) 0
+exchanged-E = exchange-exchanged (netE (three 0 1 2)) (three 0 1 2) 0 (three 1 0 2) exchange-E .1
+
+pub lifted-E : lift (netE (three 0 1 2)) (three 1 0 2) ≡ run (exchanged 0 (three 0 1 2))
+lifted-E = exchange-lifts (netE (three 0 1 2)) (three 0 1 2) 0 (three 1 0 2) exchange-E (three 0 1 2) .0 lift-E
+
+not-apart-R : exchange netR (two 0 1) 0 ≡ refusal (other 17 0)
+unfolding exchange netR one two three net
+not-apart-R = refl
+
+-- Net R's steps are a run and are refused for the one premise that the second reads what the first marked.
+pub runs-R : T (runs netR (begin netR) (two 0 1))
+unfolding two tooLong
+runs-R = exchange-not-apart netR (two 0 1) 0 refl .0 not-apart-R .0
+
+-- ---- the numbering, 13 and 14
+
+behind-D : getElem? (unfoldedEvents netD) 1034 ≡ some (record { event = 11; colour = [] })
+unfolding netD one net unfoldedEvents
+behind-D = refl
+
+pub number-D : number netD (record { event = 11; colour = [] }) ≡ 1034
+number-D = number-back netD 1034 (record { event = 11; colour = [] }) behind-D
+
+refused-L : unfoldingRefused (netL (one 1) (([] ↝ one 15) ∷ [])) ≡ some (other 13 27)
+unfolding unfoldingRefused netL one net
+refused-L = refl
+
+pub idle-L : Idlest (netL (one 1) (([] ↝ one 15) ∷ [])) 27
+idle-L = refused-13 (netL (one 1) (([] ↝ one 15) ∷ [])) 27 .0 refused-L
+
+over-L : unfoldingRefused (netL (one 0) (([] ↝ one 15) ∷ [])) ≡ some (other 14 0)
+unfolding unfoldingRefused netL one net
+over-L = refl
+
+pub past-L : within (netL (one 0) (([] ↝ one 15) ∷ [])) ≡ false
+past-L = refused-14 (netL (one 0) (([] ↝ one 15) ∷ [])) .0 over-L .1
