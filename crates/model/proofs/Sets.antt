@@ -17,7 +17,7 @@ use Rattle.lists.proofs.Distinct.{ascending-least, ascending-keep}
 use Rattle.model.specs.Net.{Net, Sound}
 use Rattle.model.specs.Runs.{Marker, atStart, byEvent}
 use Rattle.model.specs.Unfolding.{sameMarker, UnfoldedCondition, ordinary, copy, markers, users, copies, unfoldedConditions, UnfoldedEvent, reads, unfoldedEvents, picked, takes, puts, begins, origin, basic}
-use Rattle.model.specs.Paper.{_∩_, _≐_, B, P, E, pre, Marks, Uses, Δ, B′, pre′, post′, start′, chosen, named}
+use Rattle.model.specs.Paper.{_∩_, _≐_, B, P, E, pre, Marks, Uses, E′, B′, pre′, post′, start′, chosen, named}
 use Rattle.model.proofs.Unfolded.{sameMarker-eq, Each, picked-cases, picked-first, picked-in, choices-each, start-marks, event-marks, event-uses, ordinary-in, copy-in, kind-of, pair-of, event-in, colour-out, colour-picks, origin-in}
 
 module _ (n : Net) where
@@ -132,8 +132,8 @@ module _ (n : Net) where
   each-of : (x : UnfoldedEvent) → x ∈ unfoldedEvents n → Each (x .colour) (map (markers n) (reads n (x .event)))
   each-of x i = choices-each (map (markers n) (reads n (x .event))) (x .colour) (colour-out n x i .1)
 
-  -- The colour of each unfolded event is one of Δ(e).
-  pub colours-paper : Sound n → (x : UnfoldedEvent) → x ∈ unfoldedEvents n → E n (x .event) × Δ n (x .event) (chosen n x)
+  -- Each unfolded event is one of E′,
+  pub colours-paper : Sound n → (x : UnfoldedEvent) → x ∈ unfoldedEvents n → E′ n (x .event) (chosen n x)
   colours-paper s x i = (
     colour-out n x i .0,
     record {
@@ -162,11 +162,13 @@ module _ (n : Net) where
         ],
       )
 
-  -- Each colour of Δ(e) is that of an unfolded event.
-  pub colours-all : (e : ℕ) (c : ℕ → Marker → Type 0) → E n e → Δ n e c
+  -- each of E′ is an unfolded event,
+  pub colours-all : (e : ℕ) (c : ℕ → Marker → Type 0) → E′ n e c
       → (x : UnfoldedEvent) × (x ∈ unfoldedEvents n) × (x .event ≡ e) × ((b : ℕ) (k : Marker) → chosen n x b k ↔ c b k)
   unfolding reads
-  colours-all e c h d =
+  colours-all e c f =
+      let h = f .0 in
+      let d = f .1 in
       let r = gather c (d .one) (reads n e) (λ b i. let y = d .chooses b (reads-out e b i) in (y .0, markers-paper n b (y .0) .1 (d .from b (y .0) (y .1) .1), y .1)) in
       let x : UnfoldedEvent = record { event = e; colour = r .0 } in (
         x,
@@ -175,7 +177,7 @@ module _ (n : Net) where
         λ b k. (r .2 b k, λ t. let i = d .from b k t .0 in r .3 b k (keep-in (n .persistent) (i .0) (i .1)) t),
       )
 
-  -- No two unfolded events of an event have the same colour.
+  -- and no two unfolded events are the same one of E′.
   pub colours-one : Sound n → (x y : UnfoldedEvent) → x ∈ unfoldedEvents n → y ∈ unfoldedEvents n → x .event ≡ y .event
       → ((b : ℕ) (k : Marker) → chosen n x b k ↔ chosen n y b k) → x ≡ y
   colours-one s x y i j e f =

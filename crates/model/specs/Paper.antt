@@ -111,7 +111,12 @@ pub record Δ (n : Net) (e : ℕ) (c : ℕ → Marker → Type 0) : Type 0 where
   pub one : (b : ℕ) (k q : Marker) → c b k → c b q → k ≡ q
   pub from : (b : ℕ) (k : Marker) → c b k → (pre n e ∩ P n) b × Marks n b k
 
--- B′, the union of {b} × Δ(b): (b, δ) is written ordinary b, and (b, (k, u)) is written copy b k u (paper, section 6.1).
+-- E′, the union of {e} × Δ(e) over the events (paper, section 6.1).
+abbrev pub E′ : Net → ℕ → (ℕ → Marker → Type 0) → Type 0
+E′ n e c = E n e × Δ n e c
+
+-- B′, the union of {b} × Δ(b), where Δ(b) is {δ} for an ordinary b and •b × b• for a persistent one: (b, δ) is written ordinary
+-- b, and (b, (k, u)) is written copy b k u (paper, section 6.1).
 abbrev pub B′ : Net → Set UnfoldedCondition
 B′ n =
     (λ p. (b : ℕ) × (B n ∖ P n) b × (p ≡ ordinary b))
