@@ -93,6 +93,12 @@ mem-keep f b l =
     (λ t. let r = keep-out f l (mem-in b (keep f l) t) in and-both (mem b l) (f b) (in-mem (r .0)) (r .1))
     (λ t. in-mem (keep-in f (mem-in b l (and-left (mem b l) (f b) t)) (and-right (mem b l) (f b) t)))
 
+-- tests that agree on the members keep the same
+pub keep-same : (f g : ℕ → Bool) (l : List ℕ) → ((b : ℕ) → T (mem b l) → f b ≡ g b) → keep f l ≡ keep g l
+keep-same f g [] h = refl
+keep-same f g (x ∷ l) h =
+    rw (h x (or-left (eqb x x) (mem x l) (eqb-refl x)), keep-same f g l (λ b i. h b (or-right (eqb b x) (mem b l) i)))
+
 -- ---- count
 
 pub count-in : (j k c : ℕ) → k ≤ j → j < k + c → j ∈ count k c

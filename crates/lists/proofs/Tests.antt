@@ -7,8 +7,9 @@ use Prim.Native.Nat.{ℕ, zero, suc, _+_, _≤_, _<_}
 use borrow.Author.Tests.{eqb-false}
 use mathlib.Core.Logic.{_≢_}
 use native.Mathlib.Omega.{arith}
-use lib.Dec.{T, eqb, eqb→eq, eqb-refl}
-use Rattle.lists.specs.Lists.{mem, all, any, _⇒_, failing, nothing, count}
+use lib.Dec.{T, eqb, eqb→eq, eqb-refl, leb, leb→le, ltb, ltb→lt, lt→ltb}
+use lib.ListN.{length}
+use Rattle.lists.specs.Lists.{mem, all, any, ascending-from, ascending, fits, _⇒_, failing, nothing, count}
 use Rattle.lists.proofs.Bools.{T-of, and-left, and-right, and-both, or-left, or-right, or-cases, imp-elim}
 
 -- ---- all
@@ -101,3 +102,32 @@ lowest-failing f k (suc c) x l = go (eqb k x) refl (lowest-failing f (suc k) c x
         let a = l .at-least in
         rw (l .first k (omega arith) (omega (arith, ne)))
         (ih (record { at-least = omega (arith, ne); below = omega (arith, l .below); fails = l .fails; first = λ y p r. l .first y (omega arith) r }))
+
+-- ---- a list that ascends below a number
+
+pub fits-ascends : (n : ℕ) (l : List ℕ) → T (fits n l) → T (ascending l)
+unfolding fits
+fits-ascends n l t = and-left (ascending l) (all (λ b. ltb b n) l) t
+
+pub fits-in : (n : ℕ) (l : List ℕ) → T (fits n l) → (b : ℕ) → T (mem b l) → b < n
+unfolding fits
+fits-in n l t b i = ltb→lt b n (all-at (λ b. ltb b n) l (and-right (ascending l) (all (λ b. ltb b n) l) t) b i)
+
+pub fits-of : (n : ℕ) (l : List ℕ) → T (ascending l) → ((b : ℕ) → T (mem b l) → b < n) → T (fits n l)
+unfolding fits
+fits-of n l a h = and-both (ascending l) (all (λ b. ltb b n) l) a (all-of (λ b. ltb b n) l (λ b i. lt→ltb b n (h b i)))
+
+-- it has no more members than the numbers below n
+room : (n k : ℕ) (l : List ℕ) → k ≤ n → T (ascending-from k l) → T (all (λ b. ltb b n) l) → k + length l ≤ n
+room n k [] h a b = omega arith
+room n k (x ∷ l) h a b =
+    let low = leb→le k x (and-left (leb k x) (ascending-from (suc x) l) a) in
+    let high = ltb→lt x n (and-left (ltb x n) (all (λ b. ltb b n) l) b) in
+    let ih = room n (suc x) l high (and-right (leb k x) (ascending-from (suc x) l) a) (and-right (ltb x n) (all (λ b. ltb b n) l) b) in
+    omega arith
+
+pub fits-short : (n : ℕ) (l : List ℕ) → T (fits n l) → length l ≤ n
+unfolding fits
+fits-short n l t =
+    let r = room n 0 l (omega arith) (and-left (ascending l) (all (λ b. ltb b n) l) t) (and-right (ascending l) (all (λ b. ltb b n) l) t) in
+    omega arith

@@ -3,7 +3,7 @@ use mathlib.Core.Bool.{Bool, true, false, not, _&&_, _||_, cond}
 use mathlib.Core.Option.{Option, none, some}
 use mathlib.Core.List.{List, [], _∷_, _++_, List·Memᴰ}
 use Prim.Native.Nat.{ℕ, zero, suc, _+_}
-use lib.Dec.{eqb, leb}
+use lib.Dec.{eqb, leb, ltb}
 
 -- ---- tests
 
@@ -35,6 +35,10 @@ ascending-from k (x ∷ xs) = leb k x && ascending-from (suc x) xs
 -- each member is above the one before it
 abbrev pub ascending : List ℕ → Bool
 ascending l = ascending-from 0 l
+
+-- a list ascends, and each member is below n
+unfoldable pub fits : ℕ → List ℕ → Bool
+fits n l = ascending l && all (λ b. ltb b n) l
 
 -- if the one test passes, so does the other
 infixr 20 _⇒_

@@ -3,6 +3,7 @@
 pub mod Firing
 pub mod Rule
 pub mod Soundness
+pub mod Lent
 pub mod Replay
 pub mod Unfolded
 pub mod Sets

@@ -2,25 +2,19 @@
 use mathlib.Core.Bool.{Bool, _&&_}
 use mathlib.Core.List.{List}
 use Prim.Native.Nat.{ℕ, _<_, zero-le}
-use lib.Dec.{T, ltb, ltb→lt}
+use lib.Dec.{T}
 use native.Mathlib.Omega.{arith}
-use Rattle.lists.specs.Lists.{mem, all, ascending, count}
+use Rattle.lists.specs.Lists.{all, fits, count}
 use Rattle.lists.proofs.Bools.{and-left, and-right}
 use Rattle.lists.proofs.Members.{in-mem, count-in}
-use Rattle.lists.proofs.Tests.{all-at}
+use Rattle.lists.proofs.Tests.{all-at, fits-ascends, fits-in}
 use Rattle.model.specs.Net.{Net, Sound}
 
--- a list ascends and stays below a number
-abbrev pub fits : ℕ → List ℕ → Bool
-fits c l = ascending l && all (λ b. ltb b c) l
-
 unfoldable pub sound : Net → Bool
+unfolding fits
 sound n =
     all (λ e. fits (n .conditions) (n .preconditions e)) (count 0 (n .events))
     && (all (λ e. fits (n .conditions) (n .postconditions e)) (count 0 (n .events)) && fits (n .conditions) (n .start))
-
-fits-in : (c : ℕ) (l : List ℕ) → T (fits c l) → (b : ℕ) → T (mem b l) → b < c
-fits-in c l t b i = ltb→lt b c (all-at (λ b. ltb b c) l (and-right (ascending l) (all (λ b. ltb b c) l) t) b i)
 
 pub sound-of : (n : Net) → T (sound n) → Sound n
 unfolding sound
@@ -36,9 +30,9 @@ sound-of n t =
       pre-in = λ e b h i. fits-in (n .conditions) (n .preconditions e) (pre e h) b i;
       post-in = λ e b h i. fits-in (n .conditions) (n .postconditions e) (post e h) b i;
       start-in = λ b i. fits-in (n .conditions) (n .start) start b i;
-      pre-ascends = λ e h. and-left (ascending (n .preconditions e)) (all (λ b. ltb b (n .conditions)) (n .preconditions e)) (pre e h);
-      post-ascends = λ e h. and-left (ascending (n .postconditions e)) (all (λ b. ltb b (n .conditions)) (n .postconditions e)) (post e h);
-      start-ascends = and-left (ascending (n .start)) (all (λ b. ltb b (n .conditions)) (n .start)) start;
+      pre-ascends = λ e h. fits-ascends (n .conditions) (n .preconditions e) (pre e h);
+      post-ascends = λ e h. fits-ascends (n .conditions) (n .postconditions e) (post e h);
+      start-ascends = fits-ascends (n .conditions) (n .start) start;
     }
   where
     each : (f : ℕ → List ℕ) → T (all (λ e. fits (n .conditions) (f e)) (count 0 (n .events))) → (e : ℕ) → e < n .events → T (fits (n .conditions) (f e))

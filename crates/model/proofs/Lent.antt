@@ -1,0 +1,81 @@
+-- Lent bytes and markings: written and read again they are themselves, and no rule makes a condition hold that is not there.
+use mathlib.Core.Path.{_≡_, refl, sym, _∙_, ap, subst, fun-ext}
+use mathlib.Core.Bool.{Bool, true, false}
+use mathlib.Core.List.{List, [], _∷_, map}
+use Prim.Native.Nat.{ℕ, zero, suc, _+_, _≤_, _<_}
+use lib.Dec.{T, eqb, ltb→lt}
+use lib.ListN.{length, getD, length-map, List·getD-eq-default}
+use lib.Seq.{ext-getD}
+use native.Mathlib.Decide.{decLe}
+use native.Mathlib.Nat.{not-suc-le-zero, le-of-suc-le-suc, add-zero, add-suc, suc-add, zero-add, lt-of-not-le}
+use native.Mathlib.Omega.{arith}
+use Rattle.lists.specs.Lists.{mem, count}
+use Rattle.lists.proofs.Bools.{is-false}
+use Rattle.lists.proofs.Members.{length-count}
+use Rattle.model.specs.Net.{Net, Sound, Marking, begin, fire}
+use Rattle.model.specs.Lent.{bit, bytes, lent}
+use Rattle.model.specs.Runs.{runs, end}
+use Rattle.model.proofs.Firing.{runs-first, runs-rest, can-event, fire-none}
+
+-- nothing holds past the conditions
+abbrev pub Tidy : ℕ → Marking → Type 0
+Tidy c m = (b : ℕ) → c ≤ b → m b ≡ false
+
+getD-count : (f : ℕ → ℕ) (k c i : ℕ) → i < c → getD (map f (count k c)) i 0 ≡ f (k + i)
+getD-count f k zero i h = absurd (not-suc-le-zero h)
+getD-count f k (suc c) zero h = rw add-zero
+getD-count f k (suc c) (suc i) h = rw (add-suc, ← suc-add k i) (getD-count f (suc k) c i (le-of-suc-le-suc h))
+
+pub length-bytes : (c : ℕ) (m : Marking) → length (bytes c m) ≡ c
+unfolding bytes
+length-bytes c m = length-map (count 0 c) (λ b. bit (m b)) ∙ length-count 0 c
+
+pub bytes-at : (c : ℕ) (m : Marking) (i : ℕ) → i < c → getD (bytes c m) i 0 ≡ bit (m i)
+unfolding bytes
+bytes-at c m i h = getD-count (λ b. bit (m b)) 0 c i h ∙ rw zero-add
+
+bit-one : (t : Bool) → eqb (bit t) 1 ≡ t
+bit-one true = refl
+bit-one false = refl
+
+-- written as bytes and read again, a tidy marking is itself
+pub lent-bytes : (c : ℕ) (m : Marking) → Tidy c m → lent (bytes c m) ≡ m
+unfolding lent
+lent-bytes c m t = fun-ext (λ b. go b (decLe c b))
+  where
+    go : (b : ℕ) → Dec (c ≤ b) → eqb (getD (bytes c m) b 0) 1 ≡ m b
+    go b (yes h) = ap (λ (x : ℕ). eqb x 1) (List·getD-eq-default (bytes c m) 0 (subst (λ (x : ℕ). x ≤ b) (sym (length-bytes c m)) h)) ∙ sym (t b h)
+    go b (no h) = ap (λ (x : ℕ). eqb x 1) (bytes-at c m b (lt-of-not-le h)) ∙ bit-one (m b)
+
+-- bytes that are 0 or 1 are themselves again, read and written
+pub bytes-lent : (l : List ℕ) → ((i : ℕ) → i < length l → getD l i 0 ≤ 1) → bytes (length l) (lent l) ≡ l
+unfolding lent
+bytes-lent l h =
+    ext-getD 0 (bytes (length l) (lent l)) l (length-bytes (length l) (lent l))
+    (λ i p. let q = subst (λ (x : ℕ). i < x) (length-bytes (length l) (lent l)) p in bytes-at (length l) (lent l) i q ∙ go (getD l i 0) (h i q))
+  where
+    go : (x : ℕ) → x ≤ 1 → bit (eqb x 1) ≡ x
+    go zero p = refl
+    go (suc zero) p = refl
+    go (suc (suc x)) p = absurd (omega arith)
+
+pub tidy-lent : (l : List ℕ) → Tidy (length l) (lent l)
+unfolding lent
+tidy-lent l b h = ap (λ (x : ℕ). eqb x 1) (List·getD-eq-default l 0 h)
+
+-- a list of conditions below c
+pub tidy-mem : (c : ℕ) (l : List ℕ) → ((b : ℕ) → T (mem b l) → b < c) → Tidy c (λ b. mem b l)
+tidy-mem c l h b le = is-false (mem b l) (λ t. let x = h b t in omega arith)
+
+pub tidy-begin : (n : Net) → Sound n → Tidy (n .conditions) (begin n)
+unfolding begin
+tidy-begin n s = tidy-mem (n .conditions) (n .start) (s .start-in)
+
+pub tidy-fire : (n : Net) → Sound n → (m : Marking) (e : ℕ) → e < n .events → Tidy (n .conditions) m → Tidy (n .conditions) (fire n m e)
+tidy-fire n s m e l t b h = fire-none n m e b (tidy-mem (n .conditions) (n .postconditions e) (λ b x. s .post-in e b l x) b h) (t b h)
+
+pub tidy-end : (n : Net) → Sound n → (m : Marking) (r : List ℕ) → T (runs n m r) → Tidy (n .conditions) m → Tidy (n .conditions) (end n m r)
+unfolding end
+tidy-end n s m [] x t = t
+tidy-end n s m (e ∷ r) x t =
+    tidy-end n s (fire n m e) r (runs-rest n m e r x) (tidy-fire n s m e (ltb→lt e (n .events) (can-event n m e (runs-first n m e r x))) t)
