@@ -1,0 +1,4 @@
+pub mod Parts
+pub mod Headers
+pub mod Fine
+pub mod Made

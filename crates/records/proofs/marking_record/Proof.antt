@@ -1,0 +1,81 @@
+-- `records::marking_record` meets its contract.
+use mathlib.Core.Path.{_∙_, sym}
+use native.Mathlib.Omega.{arith}
+use borrow.Author.Tests.{eq-eqb, ne-eqb, le-leb, lt-leb, not-true, not-false}
+use Rattle.refusal.specs.Answer.{need}
+use Rattle.records.specs.Records.{markingOf}
+use Rattle.records.proofs.Headers.{known}
+use borrow.Author.Needs.{needs}
+use Rattle.records.proofs.marking_record.Statement.{statement}
+use Rattle.records.proofs.marking_record.Tie as tie
+
+returns : tie.Need-returns
+unfolding markingOf need
+returns c =
+    c .refused .ensures ∙ simp (sym (c .before .before .before .header-at .ensures) ∙ c .before .enum-told .given .1)
+
+returns-2 : tie.Need-returns-2
+unfolding markingOf need
+returns-2 c =
+    c .refused2 .ensures ∙ simp (sym (c .before .before .before .before .before .header-at .ensures) ∙ c .before .before .before .h .given .1, ne-eqb _ _ (c .before .if1 .taken))
+
+returns-3 : tie.Need-returns-3
+unfolding markingOf need
+returns-3 c =
+    c .refused3 .ensures ∙ simp (sym (c .before .before .before .before .before .before .header-at .ensures) ∙ c .before .before .before .before .h .given .1, eq-eqb _ _ (c .before .before .if1 .left), ne-eqb _ _ (c .before .if2 .taken))
+
+add-part-of : tie.Need-add-part-of
+add-part-of c =
+    let k = known _ _ _ _ (sym (c .before .before .before .before .before .before .header-at .ensures) ∙ c .before .before .before .before .h .given .1) in
+    omega arith
+
+returns-4 : tie.Need-returns-4
+unfolding markingOf need
+returns-4 c =
+    c .refused4 .ensures ∙ simp (sym (c .before .before .before .before .before .before .before .before .before .before .header-at .ensures) ∙ c .before .before .before .before .before .before .before .before .h .given .1, eq-eqb _ _ (c .before .before .before .before .before .before .if1 .left), eq-eqb _ _ (c .before .before .before .before .before .if2 .left), ← c .before .before .before .before .word .ensures, ← c .before .before .before .part-of .ensures, ← c .before .before .ascends .ensures, not-true (c .before .before .ascends .result) (c .before .if3 .taken))
+
+add-next : tie.Need-add-next
+add-next c =
+    let k = known _ _ _ _ (sym (c .before .before .before .before .before .before .before .before .before .header-at .ensures) ∙ c .before .before .before .before .before .before .before .h .given .1) in
+    omega arith
+
+add-next-2 : tie.Need-add-next-2
+add-next-2 c =
+    let k = known _ _ _ _ (sym (c .before .before .before .before .before .before .before .before .before .header-at .ensures) ∙ c .before .before .before .before .before .before .before .h .given .1) in
+    omega arith
+
+returns-5 : tie.Need-returns-5
+unfolding markingOf need
+returns-5 c =
+    c .refused5 .ensures ∙ simp (sym (c .before .before .before .before .before .before .before .before .before .before .before .header-at .ensures) ∙ c .before .before .before .before .before .before .before .before .before .h .given .1, eq-eqb _ _ (c .before .before .before .before .before .before .before .if1 .left), eq-eqb _ _ (c .before .before .before .before .before .before .if2 .left), ← c .before .before .before .before .before .word .ensures, ← c .before .before .before .before .part-of .ensures, ← c .before .before .before .ascends .ensures, not-false (c .before .before .before .ascends .result) (c .before .before .if3 .left), lt-leb _ _ (c .before .if4 .taken))
+
+returns-6 : tie.Need-returns-6
+unfolding markingOf need
+returns-6 c =
+    simp (sym (c .before .before .before .before .before .before .before .before .before .before .header-at .ensures) ∙ c .before .before .before .before .before .before .before .before .h .given .1, eq-eqb _ _ (c .before .before .before .before .before .before .if1 .left), eq-eqb _ _ (c .before .before .before .before .before .if2 .left), ← c .before .before .before .before .word .ensures, ← c .before .before .before .part-of .ensures, ← c .before .before .ascends .ensures, not-false (c .before .before .ascends .result) (c .before .if3 .left), le-leb _ _ (c .if4 .left))
+
+pub marking-record-spec : {M : Type 1} → statement M
+marking-record-spec =
+    tie.close
+    (tie.spec
+    (λ c κs. search needs)
+    (λ c. search needs)
+    (λ c. search needs)
+    (λ c κs. search needs)
+    returns
+    (λ c κs. search needs)
+    returns-2
+    (λ c κs. search needs)
+    returns-3
+    (λ c κs. search needs)
+    (λ c. search needs)
+    add-part-of
+    (λ c κs. search needs)
+    (λ c κs. search needs)
+    (λ c κs. search needs)
+    returns-4
+    add-next
+    add-next-2
+    (λ c κs. search needs)
+    returns-5
+    returns-6)

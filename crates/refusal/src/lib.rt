@@ -1,0 +1,70 @@
+// What every call shares: the refusal with its number and place, the four numberings kept apart, and the marker.
+ghost use mathlib.Core.Path.{_≡_};
+ghost use Rattle.refusal.specs.Answer.{refusedAt, numberOf, placeOf, valueOf};
+
+// Why a call is refused, by number, and where.
+pub struct Refusal {
+    pub number: u8,
+    pub place: usize,
+}
+
+// An offset or a count, or the refusal.
+pub enum Judged {
+    Fine(usize),
+    Refused(Refusal),
+}
+
+// The number of an event of the table.
+pub struct TableEvent(pub u16);
+
+// The number of an event of the unfolding.
+pub struct UnfoldedEvent(pub u16);
+
+// The number of a condition of the table.
+pub struct TableCondition(pub u16);
+
+// The number of a condition of the unfolding.
+pub struct UnfoldedCondition(pub u16);
+
+// What marked a persistent condition: the start, or an event of the table.
+pub enum Marker {
+    Start,
+    ByEvent(TableEvent),
+}
+
+// The refusal as an answer.
+pub fn refused(number: u8, place: usize) -> Judged
+    ensures { λ r. ⌜ r ≡ refusedAt number place ⌝ }
+{
+    Judged::Refused(Refusal { number, place })
+}
+
+// The number of an answer: 0 where it is fine.
+pub fn number_of(answer: Judged) -> u8
+    ensures { λ r. ⌜ r ≡ numberOf answer ⌝ }
+{
+    match answer {
+        Judged::Fine(_) => 0,
+        Judged::Refused(refusal) => refusal.number,
+    }
+}
+
+// The place of an answer: 0 where it is fine.
+pub fn place_of(answer: Judged) -> usize
+    ensures { λ r. ⌜ r ≡ placeOf answer ⌝ }
+{
+    match answer {
+        Judged::Fine(_) => 0,
+        Judged::Refused(refusal) => refusal.place,
+    }
+}
+
+// The value of an answer: 0 where it is refused.
+pub fn value_of(answer: Judged) -> usize
+    ensures { λ r. ⌜ r ≡ valueOf answer ⌝ }
+{
+    match answer {
+        Judged::Fine(value) => value,
+        Judged::Refused(_) => 0,
+    }
+}
