@@ -1,0 +1,6 @@
+-- The definitions, in reading order.
+pub mod Walk
+pub mod Decoded
+pub mod Asked
+pub mod Tabled
+pub mod Encoded
