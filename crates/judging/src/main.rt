@@ -1,0 +1,97 @@
+// Judges one sound table and a damaged one for each of the refusals 1 to 9, and writes a line for each; run by the gate.
+use libc::STDOUT_FILENO;
+use refusal::Judged;
+
+// One line: the number of events, or the refusal's number and place.
+fn verdict(table: &[u8]) {
+    let r = table::judge(table);
+    match r {
+        Judged::Fine(events) => {
+            io::write_all(STDOUT_FILENO, b"fine ");
+            io::print_decimal(STDOUT_FILENO, events as u64);
+        }
+        Judged::Refused(refusal) => {
+            io::write_all(STDOUT_FILENO, b"refused ");
+            io::print_decimal(STDOUT_FILENO, refusal.number as u64);
+            io::write_all(STDOUT_FILENO, b" at ");
+            io::print_decimal(STDOUT_FILENO, refusal.place as u64);
+        }
+    }
+    io::write_all(STDOUT_FILENO, b"\n");
+}
+
+// A table of one ordinary condition and 257 events that mark it, one event too many.
+fn crowded() -> [u8; 2579] {
+    let mut table = [0u8; 2579];
+    table[0] = 1;
+    table[2] = 1;
+    let mut k: usize = 0;
+    while k < 257 {
+        let at = 5 + 10 * k;
+        table[at] = 6;
+        table[at + 2] = 2;
+        table[at + 6] = 1;
+        k = k + 1;
+    }
+    table[2577] = 3;
+    table
+}
+
+// Conditions 0 and [1], one event {0} to {1}, start {0}; then its header cut off, its kinds and lengths wrong.
+fn records() {
+    verdict(
+        b"\x02\x00\x01\x00\x00\x01\x08\x00\x02\x00\x01\x00\x01\x00\x00\x00\x01\x00\x02\x00\x03\x00\x00\x00",
+    );
+    verdict(
+        b"\x02\x00\x01\x00\x00\x01\x08\x00\x02\x00\x01\x00\x01\x00\x00\x00\x01\x00\x02\x00\x03\x00\x00",
+    );
+    verdict(
+        b"\x02\x00\x01\x00\x00\x01\x08\x00\x09\x00\x01\x00\x01\x00\x00\x00\x01\x00\x02\x00\x03\x00\x00\x00",
+    );
+    verdict(
+        b"\x02\x00\x01\x00\x00\x01\x08\x00\x02\x00\x02\x00\x01\x00\x00\x00\x01\x00\x02\x00\x03\x00\x00\x00",
+    );
+    verdict(b"\x02\x00\x01\x00\x00\x01\x04\x00\x02\x00\x00\x80\x00\x00\x02\x00\x03\x00\x00\x00");
+}
+
+// The same with a byte of 2 for a condition, a list that does not ascend, and no such condition.
+fn payloads() {
+    verdict(
+        b"\x02\x00\x01\x00\x00\x02\x08\x00\x02\x00\x01\x00\x01\x00\x00\x00\x01\x00\x02\x00\x03\x00\x00\x00",
+    );
+    verdict(
+        b"\x02\x00\x01\x00\x00\x01\x0a\x00\x02\x00\x02\x00\x01\x00\x00\x00\x00\x00\x01\x00\x02\x00\x03\x00\x00\x00",
+    );
+    verdict(
+        b"\x02\x00\x01\x00\x00\x01\x08\x00\x02\x00\x01\x00\x01\x00\x00\x00\x01\x00\x02\x00\x03\x00\x02\x00",
+    );
+}
+
+// The same with an event whose lists are both empty.
+fn untouched() {
+    verdict(b"\x02\x00\x01\x00\x00\x01\x04\x00\x02\x00\x00\x00\x00\x00\x02\x00\x03\x00\x00\x00");
+}
+
+// Seventeen persistent conditions, all of them preconditions of one event, one too many.
+fn greedy() {
+    verdict(
+        b"\x11\x00\x01\x00\x01\x01\x01\x01\x01\x01\x01\x01\x01\x01\x01\x01\x01\x01\x01\x01\x01\x26\x00\x02\x00\x11\x00\x00\x00\x00\x00\x01\x00\x02\x00\x03\x00\x04\x00\x05\x00\x06\x00\x07\x00\x08\x00\x09\x00\x0a\x00\x0b\x00\x0c\x00\x0d\x00\x0e\x00\x0f\x00\x10\x00\x00\x00\x03\x00",
+    );
+}
+
+// The first table with one byte more.
+fn longer() {
+    verdict(
+        b"\x02\x00\x01\x00\x00\x01\x08\x00\x02\x00\x01\x00\x01\x00\x00\x00\x01\x00\x02\x00\x03\x00\x00\x00\x00",
+    );
+}
+
+fn main() {
+    records();
+    payloads();
+    let table = crowded();
+    verdict(&table);
+    untouched();
+    greedy();
+    longer();
+}
