@@ -24,7 +24,7 @@ abbrev pub nextIf : Judged → ℕ → ℕ
 nextIf (Fine next) at = next
 nextIf (Refused refusal) at = at
 
--- The place after the record at a place; the first record that is refused ends the walk (01, Table records).
+-- The place after the record at a place; a refused record is not moved past (01, Table records).
 unfoldable pub nextOf : List ℕ → ℕ → ℕ
 nextOf s at = nextIf (recordOf s at) at
 

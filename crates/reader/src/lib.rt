@@ -1,4 +1,4 @@
-// A reader that stands over a table with its place in it, for those who walk a table record by record; the work is in plain functions
+// A table with a place in it, for those who walk a table record by record; the work is in plain functions
 // over the slice and the place, and what takes the struct is thin.
 use refusal::Judged;
 ghost use mathlib.Core.Path.{_≡_};
@@ -28,7 +28,7 @@ pub fn record_at(table: &[u8], at: usize) -> Judged
     }
 }
 
-// The place after the record at a place; the first record that is refused ends the walk.
+// The place after the record at a place; a refused record is not moved past.
 pub fn next_at(table: &[u8], at: usize) -> usize
     ensures { λ r. ⌜ r ≡ nextOf (now (table .entry)) at ⌝ }
 {

@@ -7,7 +7,7 @@ use lib.ListN.{length}
 use lib.Dec.{leb}
 use denote.Ref.{RefT, ptr, now}
 
--- The slice r is the part of s that begins at a place and reads so (01, "Table records": a list is shown as the part that it occupies).
+-- The slice r is not a copy but lies in s, begins there at a place, and reads so (01, Table records).
 pub record Part (r s : RefT (List ℕ)) (place : ℕ) (contents : List ℕ) : Type 0 where
   pub reads : now r ≡ contents
   pub within : ptr r .0 ≡ ptr s .0

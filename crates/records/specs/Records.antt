@@ -75,7 +75,7 @@ eventOf s at = whenWhole (headerOf s at) at (λ kind len.
     (need (eqb len (4 + 2 * (preCount s at + postCount s at))) 3 at
     (listsOf s at (at + 4 + len)))))
 
--- The bytes of the conditions that hold at the start, in the Marking record at an offset (01, Table records, kind 3).
+-- The bytes of the start's conditions, in the Marking record at an offset (01, Table records, kind 3).
 abbrev pub markingPart : List ℕ → ℕ → List ℕ
 markingPart s at = part s (at + 4) (wordAt s at)
 

@@ -149,7 +149,7 @@ pub fn marking_record(s: &[u8], at: usize) -> Judged
     Judged::Fine(next)
 }
 
-// The preconditions of the Event record at an offset, as the part of the table that they occupy.
+// The preconditions of the Event record at an offset, not copied: the bytes of s that hold them.
 pub fn pre_at(s: &[u8], at: usize) -> &[u8]
     ensures { λ r. ⌜ Part r (s .entry) (placeIn (now (s .entry)) (at + 8)) (prePart (now (s .entry)) at) ⌝ }
 {

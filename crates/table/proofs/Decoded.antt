@@ -80,7 +80,7 @@ pub list-none : (s : List ℕ) (e : ℕ) (refusal : Refusal) (lists : ℕ → Li
 unfolding netOf askedOf words
 list-none s e refusal lists t = none-if s e (judgeOf s) refusal lists t
 
--- the conditions that hold at the start, by the judge's answer
+-- the start's conditions, by the judge's answer
 pub start-none : (s : List ℕ) (refusal : Refusal) → judgeOf s ≡ Refused refusal → words [] ≡ netOf s .start
 unfolding netOf words
 start-none s refusal j = simp j

@@ -50,11 +50,11 @@ postPartOf s e = shownFor (askedOf s e) (postPart s)
 unfoldable pub postPlaceOf : List ℕ → ℕ → ℕ
 postPlaceOf s e = placeFor (askedOf s e) (λ at. at + 8 + 2 * preCount s at)
 
--- The conditions that hold at the start as bytes (01, Table records, kind 3).
+-- The start's conditions as bytes (01, Table records, kind 3).
 unfoldable pub markingPartOf : List ℕ → List ℕ
 markingPartOf s = shownFor (askedMarkingOf s) (markingPart s)
 
--- Where the conditions that hold at the start lie (01, Table records, kind 3).
+-- Where the start's conditions lie (01, Table records, kind 3).
 unfoldable pub markingPlaceOf : List ℕ → ℕ
 markingPlaceOf s = placeFor (askedMarkingOf s) (λ at. at + 4)
 

@@ -20,8 +20,8 @@ kindIs k (Whole kind len) = eqb kind k
 abbrev pub lastOf : ℕ → List ℕ → ℕ → Judged
 lastOf left s at = andThen (markingOf s at) (λ _. Fine (256 - left))
 
--- The records from an offset on, where so many of 256 events are still allowed: one event more is 6, the first bad record decides
--- (01, Refusal numbers).
+-- The records from an offset on, where so many of 256 events are still allowed: one event more is 6, and a record
+-- that is refused is the answer (01, Refusal numbers).
 unfoldable pub eventsFrom : ℕ → List ℕ → ℕ → Judged
 eventsFrom zero s at = cond (kindIs 2 (headerOf s at)) (refusedAt 6 at) (lastOf 0 s at)
 eventsFrom (suc left) s at = cond (kindIs 2 (headerOf s at)) (andThen (eventOf s at) (eventsFrom left s)) (lastOf (suc left) s at)
@@ -35,6 +35,6 @@ unfoldable pub offsetFrom : ℕ → List ℕ → ℕ → ℕ
 offsetFrom zero s at = at
 offsetFrom (suc e) s at = offsetFrom e s (at + 4 + wordAt s at)
 
--- The offset of event e, events being numbered from 0 in file order (01, Table records).
+-- The offset of event e, the first event being 0 (01, Table records).
 abbrev pub offsetOf : List ℕ → ℕ → ℕ
 offsetOf s e = offsetFrom e s (4 + wordAt s 0)

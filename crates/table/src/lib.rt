@@ -151,7 +151,7 @@ pub fn persistent(table: &[u8], b: TableCondition) -> Persistence
     answered(r, words::byte(table, at) == 1)
 }
 
-// The preconditions of event e, as the part of the table that they occupy.
+// The preconditions of event e, not copied: the bytes of the caller's table that hold them.
 pub fn pre_part(table: &[u8], e: TableEvent) -> &[u8]
     ensures shown { λ r. ⌜ Part r (table .entry) (prePlaceOf (now (table .entry)) (e .0)) (prePartOf (now (table .entry)) (e .0)) ⌝ }
     ensures read { λ r. ⌜ words (now r) ≡ listOf (netOf (now (table .entry))) (netOf (now (table .entry)) .preconditions) (e .0) ⌝ }
@@ -175,7 +175,7 @@ pub fn post_part(table: &[u8], e: TableEvent) -> &[u8]
     records::post_at(table, at)
 }
 
-// The conditions that hold at the start, as the part of the table that they occupy.
+// The start's conditions, likewise.
 pub fn marking_part(table: &[u8]) -> &[u8]
     ensures shown { λ r. ⌜ Part r (table .entry) (markingPlaceOf (now (table .entry))) (markingPartOf (now (table .entry))) ⌝ }
     ensures read { λ r. ⌜ words (now r) ≡ netOf (now (table .entry)) .start ⌝ }
