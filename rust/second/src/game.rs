@@ -1,0 +1,121 @@
+//! The token game: concession, firing, playing a run and exchanging steps (01, Playing the table; the paper, section 5).
+
+use crate::lent::marking_of;
+use crate::refusal::{refuse, require, Answer};
+use crate::table::{Event, Net};
+
+/// A net that is played: the table's net, or its unfolding with all conditions ordinary.
+pub trait Game {
+    /// Which conditions are persistent.
+    fn persistent(&self) -> &[bool];
+    /// The event with this number, if there is one.
+    fn event(&self, number: u16) -> Option<Event>;
+    /// The marking at the start.
+    fn start(&self) -> Vec<bool>;
+}
+
+impl Game for Net {
+    fn persistent(&self) -> &[bool] {
+        &self.persistent
+    }
+
+    fn event(&self, number: u16) -> Option<Event> {
+        self.events.get(usize::from(number)).cloned()
+    }
+
+    fn start(&self) -> Vec<bool> {
+        marking_of(&self.start, self.persistent.len())
+    }
+}
+
+/// Tests the concession of an event, with 11 before 12; the place is where the caller says.
+fn concession(persistent: &[bool], event: &Event, marking: &[bool], place: usize) -> Answer<()> {
+    let holds = |b: &u16| marking[usize::from(*b)];
+    let in_contact =
+        |b: &u16| !persistent[usize::from(*b)] && holds(b) && !event.preconditions.contains(b);
+    require(event.preconditions.iter().all(holds), 11, place)?;
+    require(!event.postconditions.iter().any(in_contact), 12, place)
+}
+
+/// The marking after an event with concession.
+fn fired(persistent: &[bool], event: &Event, marking: &[bool]) -> Vec<bool> {
+    let mut after = marking.to_vec();
+    for b in &event.preconditions {
+        after[usize::from(*b)] = false;
+    }
+    for b in &event.postconditions {
+        after[usize::from(*b)] = true;
+    }
+    for b in 0..after.len() {
+        if persistent[b] && marking[b] {
+            after[b] = true;
+        }
+    }
+    after
+}
+
+/// Fires the event with this number: the marking after it, or 10, 11 or 12 at the given place.
+pub fn fire<G: Game>(game: &G, marking: &[bool], number: u16, place: usize) -> Answer<Vec<bool>> {
+    let Some(event) = game.event(number) else {
+        return refuse(10, place);
+    };
+    concession(game.persistent(), &event, marking, place)?;
+    Ok(fired(game.persistent(), &event, marking))
+}
+
+/// All markings along a run from a start, the start first; a refusal has the step as place.
+pub fn markings_along<G: Game>(game: &G, start: Vec<bool>, run: &[u16]) -> Answer<Vec<Vec<bool>>> {
+    let mut markings = vec![start];
+    for (step, number) in run.iter().enumerate() {
+        let after = fire(game, &markings[step], *number, step)?;
+        markings.push(after);
+    }
+    Ok(markings)
+}
+
+/// Plays a run from a start to its end; a refusal has the step as place.
+pub fn play<G: Game>(game: &G, start: Vec<bool>, run: &[u16]) -> Answer<Vec<bool>> {
+    let mut marking = start;
+    for (step, number) in run.iter().enumerate() {
+        marking = fire(game, &marking, *number, step)?;
+    }
+    Ok(marking)
+}
+
+/// The conditions that an event has in either list.
+fn touched(event: &Event) -> Vec<u16> {
+    [&event.preconditions[..], &event.postconditions[..]].concat()
+}
+
+/// Two neighbouring steps may change places: they are of different events, no ordinary condition is touched by both, and the
+/// second neither reads nor marks a persistent condition that the first set, which is one that did not hold before it.
+pub fn may_exchange(net: &Net, before: &[bool], first: u16, second: u16) -> bool {
+    let one = &net.events[usize::from(first)];
+    let other = touched(&net.events[usize::from(second)]);
+    let ordinary = |b: &&u16| !net.persistent[usize::from(**b)];
+    let shared = touched(one)
+        .iter()
+        .filter(ordinary)
+        .any(|b| other.contains(b));
+    let is_set = |b: &&u16| !ordinary(b) && !before[usize::from(**b)];
+    let depends = one
+        .postconditions
+        .iter()
+        .filter(is_set)
+        .any(|b| other.contains(b));
+    first != second && !shared && !depends
+}
+
+/// The run with steps k and k + 1 exchanged: the run is replayed first, then 10 and 17 have k as place.
+pub fn exchanged(net: &Net, run: &[u16], k: usize) -> Answer<Vec<u16>> {
+    play(net, net.start(), run)?;
+    let next = k.checked_add(1).filter(|next| *next < run.len());
+    let Some(next) = next else {
+        return refuse(10, k);
+    };
+    let before = play(net, net.start(), &run[..k])?;
+    require(may_exchange(net, &before, run[k], run[next]), 17, k)?;
+    let mut other = run.to_vec();
+    other.swap(k, next);
+    Ok(other)
+}
