@@ -13,7 +13,7 @@ use Rattle.lists.specs.Lists.{mem, count}
 use Rattle.lists.proofs.Bools.{is-false}
 use Rattle.lists.proofs.Members.{length-count}
 use Rattle.model.specs.Net.{Net, Sound, Marking, begin, fire}
-use Rattle.model.specs.Lent.{bit, bytes, lent}
+use Rattle.model.specs.Lent.{bit, bytes, marking}
 use Rattle.model.specs.Runs.{runs, end}
 use Rattle.model.proofs.Firing.{runs-first, runs-rest, can-event, fire-none}
 
@@ -34,34 +34,37 @@ pub bytes-at : (c : ℕ) (m : Marking) (i : ℕ) → i < c → getD (bytes c m) 
 unfolding bytes
 bytes-at c m i h = getD-count (λ b. bit (m b)) 0 c i h ∙ rw zero-add
 
-bit-one : (t : Bool) → eqb (bit t) 1 ≡ t
+-- bytes are told by what each is
+pub bytes-are : (l : List ℕ) (c : ℕ) (m : Marking) → length l ≡ c → ((i : ℕ) → i < c → getD l i 0 ≡ bit (m i)) → l ≡ bytes c m
+bytes-are l c m e h =
+    ext-getD 0 l (bytes c m) (e ∙ sym (length-bytes c m)) (λ i p. let q : i < c = omega arith in h i q ∙ sym (bytes-at c m i q))
+
+pub bit-one : (t : Bool) → eqb (bit t) 1 ≡ t
 bit-one true = refl
 bit-one false = refl
 
 -- written as bytes and read again, a tidy marking is itself
-pub lent-bytes : (c : ℕ) (m : Marking) → Tidy c m → lent (bytes c m) ≡ m
-unfolding lent
-lent-bytes c m t = fun-ext (λ b. go b (decLe c b))
+pub marking-bytes : (c : ℕ) (m : Marking) → Tidy c m → marking (bytes c m) ≡ m
+unfolding marking
+marking-bytes c m t = fun-ext (λ b. go b (decLe c b))
   where
     go : (b : ℕ) → Dec (c ≤ b) → eqb (getD (bytes c m) b 0) 1 ≡ m b
     go b (yes h) = ap (λ (x : ℕ). eqb x 1) (List·getD-eq-default (bytes c m) 0 (subst (λ (x : ℕ). x ≤ b) (sym (length-bytes c m)) h)) ∙ sym (t b h)
     go b (no h) = ap (λ (x : ℕ). eqb x 1) (bytes-at c m b (lt-of-not-le h)) ∙ bit-one (m b)
 
 -- bytes that are 0 or 1 are themselves again, read and written
-pub bytes-lent : (l : List ℕ) → ((i : ℕ) → i < length l → getD l i 0 ≤ 1) → bytes (length l) (lent l) ≡ l
-unfolding lent
-bytes-lent l h =
-    ext-getD 0 (bytes (length l) (lent l)) l (length-bytes (length l) (lent l))
-    (λ i p. let q = subst (λ (x : ℕ). i < x) (length-bytes (length l) (lent l)) p in bytes-at (length l) (lent l) i q ∙ go (getD l i 0) (h i q))
+pub bytes-marking : (l : List ℕ) → ((i : ℕ) → i < length l → getD l i 0 ≤ 1) → l ≡ bytes (length l) (marking l)
+unfolding marking
+bytes-marking l h = bytes-are l (length l) (marking l) refl (λ i p. go (getD l i 0) (h i p))
   where
-    go : (x : ℕ) → x ≤ 1 → bit (eqb x 1) ≡ x
+    go : (x : ℕ) → x ≤ 1 → x ≡ bit (eqb x 1)
     go zero p = refl
     go (suc zero) p = refl
     go (suc (suc x)) p = absurd (omega arith)
 
-pub tidy-lent : (l : List ℕ) → Tidy (length l) (lent l)
-unfolding lent
-tidy-lent l b h = ap (λ (x : ℕ). eqb x 1) (List·getD-eq-default l 0 h)
+pub tidy-marking : (l : List ℕ) → Tidy (length l) (marking l)
+unfolding marking
+tidy-marking l b h = ap (λ (x : ℕ). eqb x 1) (List·getD-eq-default l 0 h)
 
 -- a list of conditions below c
 pub tidy-mem : (c : ℕ) (l : List ℕ) → ((b : ℕ) → T (mem b l) → b < c) → Tidy c (λ b. mem b l)

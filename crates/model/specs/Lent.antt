@@ -17,5 +17,5 @@ unfoldable pub bytes : ℕ → Marking → List ℕ
 bytes c m = map (λ b. bit (m b)) (count 0 c)
 
 -- The marking that bytes say: what has no byte does not hold (01, Table records).
-unfoldable pub lent : List ℕ → Marking
-lent l = λ b. eqb (getD l b 0) 1
+unfoldable pub marking : List ℕ → Marking
+marking l = λ b. eqb (getD l b 0) 1
