@@ -1,0 +1,10 @@
+-- The laws, from bytes up to the calls.
+pub mod Bytes
+pub mod Lists
+pub mod Firing
+pub mod Marked
+pub mod Found
+pub mod Playing
+pub mod Index
+pub mod Ends
+pub mod Exchanging

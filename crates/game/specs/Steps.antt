@@ -1,0 +1,90 @@
+-- One step on a lent marking: which conditions stop it, what it answers and what it writes.
+use mathlib.Core.Bool.{Bool, not, _&&_, _||_, cond}
+use mathlib.Core.Option.{Option, none, some}
+use mathlib.Core.List.{List, [], _∷_, _++_}
+use Prim.Native.Nat.{ℕ}
+use lib.Dec.{eqb}
+use lib.ListN.{getD, set}
+use Rattle.lists.specs.Lists.{mem, _⇒_}
+use Rattle.model.specs.Net.{Net, Marking, Stop, unknown, lacks, meets}
+use Rattle.refusal.specs.declared.Judged.{Judged}
+use Rattle.refusal.specs.declared.Judged.the-variants.{Fine}
+use Rattle.refusal.specs.Answer.{refusedAt}
+use Rattle.words.specs.Words.{words}
+use Rattle.records.specs.Records.{conditions, flags, prePart, postPart}
+use Rattle.game.specs.declared.Cause.{Cause}
+use Rattle.game.specs.declared.Cause.the-variants.{Unknown, Lacks, Meets}
+use Rattle.game.specs.declared.Step.{Step}
+use Rattle.game.specs.declared.Step.the-variants.{Goes, Stops}
+use Rattle.game.specs.declared.Failing.{Failing}
+use Rattle.game.specs.declared.Failing.the-variants.{Nothing, At}
+use Rattle.game.specs.declared.Test.{Test}
+use Rattle.game.specs.declared.Test.the-variants.{Holds, Clear, Shared, Held, Once}
+
+-- ---- tests of one condition
+
+-- What a condition of a list must pass, by the flags of the persistent ones, a marking and the two lists of an event: it holds; it
+-- makes no contact; the event touches it only if it is persistent; it holds if it is persistent, or if it is so and the event puts it
+-- (01, Playing the table and Runs across).
+abbrev pub passesOf : Test → List ℕ → Marking → List ℕ → List ℕ → ℕ → Bool
+passesOf Holds f m pre post b = m b
+passesOf Clear f m pre post b = not (m b) || (eqb (getD f b 0) 1 || mem b pre)
+passesOf Shared f m pre post b = mem b (pre ++ post) ⇒ eqb (getD f b 0) 1
+passesOf Held f m pre post b = eqb (getD f b 0) 1 ⇒ m b
+passesOf Once f m pre post b = eqb (getD f b 0) 1 && mem b post ⇒ m b
+
+-- The first condition that fails, as an answer.
+abbrev pub failingOf : Option ℕ → Failing
+failingOf none = Nothing
+failingOf (some b) = At (record { 0 = b })
+
+-- ---- conditions written into a marking
+
+-- One condition gets a byte, unless it is kept.
+abbrev pub setOne : List ℕ → ℕ → ℕ → List ℕ → List ℕ
+setOne kept v b l = cond (eqb (getD kept b 0) 1) l (set l b v)
+
+-- Each condition of a list in turn gets a byte, unless it is kept.
+unfoldable pub setAll : List ℕ → ℕ → List ℕ → List ℕ → List ℕ
+setAll kept v [] l = l
+setAll kept v (b ∷ bs) l = setAll kept v bs (setOne kept v b l)
+
+-- ---- one step
+
+-- The net that has one event alone, the one whose record stands at an offset (01, Table records).
+unfoldable pub recordNet : List ℕ → ℕ → Net
+recordNet s at = record {
+  conditions = conditions s;
+  persistent = λ b. eqb (getD (flags s) b 0) 1;
+  events = 1;
+  preconditions = λ e. words (prePart s at);
+  postconditions = λ e. words (postPart s at);
+  start = [];
+}
+
+-- What stops a step, as an answer (01, Refusal numbers).
+abbrev pub causeOf : Stop → Cause
+causeOf unknown = Unknown
+causeOf (lacks b) = Lacks (record { 0 = b })
+causeOf (meets b) = Meets (record { 0 = b })
+
+-- The number of what stops a step (01, Refusal numbers).
+abbrev pub causeNumber : Cause → ℕ
+causeNumber Unknown = 10
+causeNumber (Lacks b) = 11
+causeNumber (Meets b) = 12
+
+-- What a step answers: it goes, or what stops it (01, Refusal numbers).
+abbrev pub stepOf : Option Stop → Step
+stepOf none = Goes
+stepOf (some v) = Stops (causeOf v)
+
+-- The bytes after a step: the new ones where it goes, else the old (01, Refusal numbers).
+abbrev pub stepped : Option Stop → List ℕ → List ℕ → List ℕ
+stepped none new old = new
+stepped (some v) new old = old
+
+-- A step's answer as that of a call: a value where it goes, else the refusal at a place (01, Refusal numbers).
+abbrev pub answeredOf : Step → ℕ → ℕ → Judged
+answeredOf Goes place value = Fine value
+answeredOf (Stops x) place value = refusedAt (causeNumber x) place
