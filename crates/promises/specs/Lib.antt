@@ -1,0 +1,2 @@
+-- What is promised of the calls of the game.
+pub mod Game
