@@ -74,6 +74,10 @@ exchange-replayed s r k c h out =
     let left : leaves (exchangeOf s r k) (exchanged k r) r ≡ exchanged k r = rw h in
     let same : replayOf s (exchanged k r) (length out) ≡ replayOf s r (length out) = simp (exchanged-short k r short, short, old, new) in
     record {
+      accepted = λ room.
+          let fits = need-passes 16 (netOf s .conditions) (le-leb (netOf s .conditions) (length out) room) in
+          let taken : replayOf s r (length out) ≡ Fine (netOf s .conditions) = rw (j, short, old) fits in
+          ap (λ (x : List ℕ). replayOf s x (length out)) left ∙ same ∙ taken;
       answer = ap (λ (x : List ℕ). replayOf s x (length out)) left ∙ same;
       same-end = ap (λ (x : List ℕ). endOf s x out) left
           ∙ ap (λ (x : Judged). leaves x (endOver (netOf s) (begin (netOf s)) (exchanged k r) out) out) same
