@@ -1,0 +1,71 @@
+-- `tally::tally` meets its contract.
+use Rattle.tally.proofs.Events.{walk-first, walk-next, walk-within}
+use borrow.Author.Needs.{needs}
+use native.Mathlib.Omega.{arith}
+use mathlib.Core.Path.{_≡_}
+use Prim.Native.Nat.{_-_, _≤_}
+use lib.ListN.{length}
+use Rattle.table.specs.Walk.{offsetOf}
+use Rattle.table.specs.Decoded.{netOf}
+use Rattle.tally.specs.Having.{Tally}
+use Rattle.tally.proofs.Tallies.{tally-none, tally-room, tally-next}
+use Rattle.tally.proofs.tally.Statement.{statement}
+use Rattle.tally.proofs.tally.Tie as tie
+
+abbrev Inv-loop : tie.InvT-loop
+Inv-loop table upto post first counts₀ at₀ i₀ counts at i =
+    (i ≤ upto) × (at ≡ offsetOf table i) × (length counts ≡ 256) × Tally (netOf table) post first i counts
+
+abbrev μ-loop : tie.MeasureT-loop
+μ-loop table upto post first counts₀ at₀ i₀ counts at i = upto - i
+
+loop-holds : tie.Need-loop-holds Inv-loop μ-loop
+loop-holds c =
+    let t = tally-none (netOf (c .before .before .before .before .before .before .before .args .table .now)) (c .before .before .before .before .before .before .before .args .post) (c .before .before .before .before .before .before .before .args .first) (length (c .before .before .before .before .before .before .before .args .counts .now)) (c .before .before .before .fill .last .0) (omega arith) (c .before .before .before .fill .ensures) in
+    (omega arith, walk-first (c .before .before .before .before .before .before .before .args .table .now) (c .word .result) (c .word .ensures), t .size, t)
+
+raise-requires : tie.Need-raise-requires Inv-loop μ-loop
+raise-requires c κs =
+    tally-room (c .before .before .before .before .before .before .before .before .before .before .before .args .table .now) (c .before .before .before .before .before .before .before .before .before .before .before .args .post) (c .before .before .before .before .before .before .before .before .before .before .before .args .first) (c .before .before .before .loop .i) (c .before .before .before .loop .counts) (omega arith) (omega arith) (c .before .before .before .loop .inv .3) (c .before .before .before .loop .at) (c .list-at .result .now) (c .before .before .before .loop .inv .1) (c .list-at .ensures)
+
+add-at-2 : tie.Need-add-at-2 Inv-loop μ-loop
+add-at-2 c =
+    omega (arith, walk-within (c .before .before .before .before .before .before .before .before .before .before .before .before .before .before .args .table .now) (c .before .before .before .before .before .before .loop .i) (c .before .before .before .before .before .before .loop .at) (omega arith) (c .before .before .before .before .before .before .loop .inv .1))
+
+add-at-3 : tie.Need-add-at-3 Inv-loop μ-loop
+add-at-3 c =
+    omega (arith, walk-within (c .before .before .before .before .before .before .before .before .before .before .before .before .before .before .before .args .table .now) (c .before .before .before .before .before .before .before .loop .i) (c .before .before .before .before .before .before .before .loop .at) (omega arith) (c .before .before .before .before .before .before .before .loop .inv .1), c .word2 .ensures)
+
+loop-again : tie.Need-loop-again Inv-loop μ-loop
+loop-again c =
+    let on = walk-next (c .before .before .before .before .before .before .before .before .before .before .before .before .before .before .before .args .table .now) (c .before .before .before .before .before .before .before .loop .i) (c .before .before .before .before .before .before .before .loop .at) (omega arith) (c .before .before .before .before .before .before .before .loop .inv .1) (c .word2 .result) (c .word2 .ensures) in
+    let t = tally-next (c .before .before .before .before .before .before .before .before .before .before .before .before .before .before .before .args .table .now) (c .before .before .before .before .before .before .before .before .before .before .before .before .before .before .before .args .post) (c .before .before .before .before .before .before .before .before .before .before .before .before .before .before .before .args .first) (c .before .before .before .before .before .before .before .loop .i) (c .before .before .before .before .before .before .before .loop .counts) (omega arith) (omega arith) (c .before .before .before .before .before .before .before .loop .inv .3) (c .before .before .before .before .before .before .before .loop .at) (c .before .before .before .before .list-at .result .now) (c .before .before .before .before .before .before .before .loop .inv .1) (c .before .before .before .before .list-at .ensures) in
+    (omega arith, on, rw (c .before .before .before .raise .ensures) (t .size), rw (c .before .before .before .raise .ensures) t)
+
+returns : tie.Need-returns Inv-loop μ-loop
+returns c =
+    let z : c .before .loop .i ≡ c .before .before .before .before .before .before .before .before .before .args .upto = omega arith in
+    rw (← z) (c .before .loop .inv .3)
+
+pub tally-spec : {M : Type 1} → statement M
+tally-spec =
+    tie.close
+    (tie.spec
+    Inv-loop
+    μ-loop
+    (λ c κs. search needs)
+    (λ c κs. search needs)
+    (λ c. search needs)
+    (λ c. search needs)
+    loop-holds
+    (λ c κs. search needs)
+    raise-requires
+    add-at-2
+    (λ c κs. search needs)
+    (λ c. search needs)
+    add-at-3
+    (λ c. search needs)
+    (λ c. search needs)
+    loop-again
+    (λ c. search needs)
+    returns)
