@@ -1,0 +1,4 @@
+-- The definitions, in reading order.
+pub mod Markers
+pub mod Numbers
+pub mod Answers
