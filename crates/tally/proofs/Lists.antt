@@ -17,18 +17,6 @@ use Rattle.words.specs.Words.{wordAt, words}
 use Rattle.words.proofs.Laws.{words-next, words-end}
 use Rattle.tally.specs.Having.{raised}
 
--- ---- membership, two bytes at a time
-
-module _ (b : ℕ) (list : List ℕ) (i : ℕ) where
-  pub has-here : 1 < length list - i → b ≡ wordAt list i → mem b (words (drop i list)) ≡ true
-  has-here h e = rw (words-next list i h, eq-eqb b (wordAt list i) e)
-
-  pub has-later : 1 < length list - i → (b ≡ wordAt list i → ⊥) → mem b (words (drop i list)) ≡ mem b (words (drop (i + 2) list))
-  has-later h e = rw (words-next list i h, ne-eqb b (wordAt list i) e)
-
-  pub has-none : length list - i ≤ 1 → mem b (words (drop i list)) ≡ false
-  has-none h = rw (words-end list i h)
-
 -- ---- one number raised
 
 -- each number of a list stays below a bound that has room for one more

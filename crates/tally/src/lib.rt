@@ -1,27 +1,13 @@
 // The events of a table that have a condition in one of their two lists: how many, which, and at which place. Read on to see how
 // markers and users are counted and found.
 ghost use mathlib.Core.Path.{_≡_};
-ghost use Prim.Native.Nat.{ℕ, _≤_, _<_};
+ghost use Prim.Native.Nat.{_≤_, _<_};
 ghost use lib.Dec.{eqb};
 ghost use lib.ListN.{length, getD};
-ghost use Rattle.lists.specs.Lists.{mem, index};
+ghost use Rattle.lists.specs.Lists.{index};
 ghost use Rattle.words.specs.Words.{words};
 ghost use Rattle.table.specs.Decoded.{netOf};
 ghost use Rattle.tally.specs.Having.{listPart, having, raised, Room, Tally, Filled};
-
-// Whether b is among the numbers of a list.
-pub fn has(list: &[u8], b: usize) -> bool
-    ensures { λ r. ⌜ r ≡ mem b (words (now (list .entry))) ⌝ }
-{
-    let mut i: usize = 0;
-    while 1 < list.len() - i {
-        if b == words::word(list, i) as usize {
-            return true;
-        }
-        i = i + 2;
-    }
-    false
-}
 
 // One of the two lists of the Event record at an offset: the postconditions, or the preconditions.
 pub fn list_at(table: &[u8], at: usize, post: bool) -> &[u8]
@@ -91,7 +77,7 @@ pub fn nth(table: &[u8], upto: usize, post: bool, b: usize, wanted: usize) -> us
     let mut at = 4 + words::word(table, 0) as usize;
     let mut i: usize = 0;
     while i < upto {
-        if has(list_at(table, at, post), b) {
+        if words::has(list_at(table, at, post), b) {
             if left == 0 {
                 return i;
             }
@@ -112,7 +98,7 @@ pub fn place(table: &[u8], upto: usize, post: bool, b: usize, e: usize) -> usize
     let mut at = 4 + words::word(table, 0) as usize;
     let mut i: usize = 0;
     while i < upto {
-        if has(list_at(table, at, post), b) {
+        if words::has(list_at(table, at, post), b) {
             if e == i {
                 return found;
             }

@@ -10,7 +10,7 @@ use lib.ListN.{length, getD, drop, length-drop, drop-of-length-le}
 use lib.Seq.{drop-cons}
 use lib.Dec.{T, leb, eqb, ltb, leb→le, le→leb, ltb→lt, lt→ltb}
 use borrow.Author.Tests.{lt-leb, le-leb, eq-eqb, ne-eqb, leb-true}
-use Rattle.lists.specs.Lists.{all, keep, fits, ascending, ascending-from}
+use Rattle.lists.specs.Lists.{mem, all, keep, fits, ascending, ascending-from}
 use Rattle.lists.proofs.Bools.{iff, is-true, T-of, and-left, and-right, and-both}
 use Rattle.words.specs.Words.{wordAt, words, bytesOf, bits, countIn}
 
@@ -32,6 +32,18 @@ words-none (a ∷ b ∷ r) h = absurd (omega arith)
 
 pub words-end : (s : List ℕ) (i : ℕ) → length s - i ≤ 1 → words (drop i s) ≡ []
 words-end s i h = words-none (drop i s) (rw length-drop h)
+
+-- ---- whether a number is among those from i on
+
+module _ (b : ℕ) (s : List ℕ) (i : ℕ) where
+  pub has-here : 1 < length s - i → b ≡ wordAt s i → mem b (words (drop i s)) ≡ true
+  has-here h e = rw (words-next s i h, eq-eqb b (wordAt s i) e)
+
+  pub has-later : 1 < length s - i → (b ≡ wordAt s i → ⊥) → mem b (words (drop i s)) ≡ mem b (words (drop (i + 2) s))
+  has-later h e = rw (words-next s i h, ne-eqb b (wordAt s i) e)
+
+  pub has-none : length s - i ≤ 1 → mem b (words (drop i s)) ≡ false
+  has-none h = rw (words-end s i h)
 
 -- ---- a list that ascends below n, as a loop sees it: what is left must begin at least here
 

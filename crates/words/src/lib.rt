@@ -2,7 +2,7 @@
 ghost use mathlib.Core.Path.{_≡_};
 ghost use Prim.Native.Nat.{_+_, _<_};
 ghost use lib.ListN.{length, getD};
-ghost use Rattle.lists.specs.Lists.{fits};
+ghost use Rattle.lists.specs.Lists.{mem, fits};
 ghost use Rattle.words.specs.Words.{wordAt, words, bits, countIn};
 
 // The byte at i, and 0 past the end.
@@ -29,6 +29,20 @@ fn word_within(s: &[u8], i: usize) -> u16
     ensures { λ r. ⌜ r ≡ wordAt (now (s .entry)) i ⌝ }
 {
     s[i] as u16 + 256 * (s[i + 1] as u16)
+}
+
+// Whether a number is in s.
+pub fn has(s: &[u8], number: usize) -> bool
+    ensures { λ r. ⌜ r ≡ mem number (words (now (s .entry))) ⌝ }
+{
+    let mut i: usize = 0;
+    while 1 < s.len() - i {
+        if number == word_within(s, i) as usize {
+            return true;
+        }
+        i = i + 2;
+    }
+    false
 }
 
 // Whether the numbers in s ascend, the last below n.
