@@ -24,7 +24,7 @@ use Rattle.model.specs.Lent.{bytes, marking}
 use Rattle.game.specs.Lent.{Lent, lent}
 use Rattle.game.specs.Steps.{recordNet, stepOf, stepped, answeredOf}
 use Rattle.game.specs.Calls.{passing, onMarking, leaves, stoppedAt, firingOf, firedOf}
-use Rattle.game.specs.Played.{readyOf}
+use Rattle.game.specs.Ready.{readyOf}
 use Rattle.game.proofs.Marked.{conditions-are, on-then, on-fine}
 
 -- ---- the record's net and the table's

@@ -4,7 +4,3 @@ pub mod Lists
 pub mod Firing
 pub mod Marked
 pub mod Found
-pub mod Playing
-pub mod Index
-pub mod Ends
-pub mod Exchanging

@@ -7,7 +7,7 @@ use mathlib.Core.Option.{some, none}
 use lib.ListN.{length, getD, drop, set}
 use lib.Seq.{set-out}
 use borrow.Author.Tests.{eq-eqb, ne-eqb}
-use Rattle.lists.specs.Lists.{mem, failing}
+use Rattle.lists.specs.Lists.{failing}
 use Rattle.words.specs.Words.{wordAt, words}
 use Rattle.words.proofs.Laws.{words-next, words-end}
 use Rattle.game.specs.Steps.{setOne, setAll}
@@ -16,12 +16,6 @@ use Rattle.game.specs.Steps.{setOne, setAll}
 module _ (s : List ℕ) (i b : ℕ) (h : 1 < length s - i) (e : b ≡ wordAt s i) where
   next : words (drop i s) ≡ b ∷ words (drop (i + 2) s)
   next = words-next s i h ∙ rw e
-
-  pub mem-here : (k : ℕ) → k ≡ b → mem k (words (drop i s)) ≡ true
-  mem-here k p = rw (next, eq-eqb k b p)
-
-  pub mem-on : (k : ℕ) → (k ≡ b → ⊥) → mem k (words (drop i s)) ≡ mem k (words (drop (i + 2) s))
-  mem-on k p = rw (next, ne-eqb k b p)
 
   pub failing-here : (f : ℕ → Bool) → f b ≡ false → failing f (words (drop i s)) ≡ some b
   failing-here f p = rw (next, p)
@@ -35,9 +29,6 @@ module _ (s : List ℕ) (i b : ℕ) (h : 1 < length s - i) (e : b ≡ wordAt s i
 
 -- no condition left
 module _ (s : List ℕ) (i : ℕ) (h : length s - i ≤ 1) where
-  pub mem-end : (k : ℕ) → mem k (words (drop i s)) ≡ false
-  mem-end k = rw (words-end s i h)
-
   pub failing-end : (f : ℕ → Bool) → failing f (words (drop i s)) ≡ none
   failing-end f = rw (words-end s i h)
 

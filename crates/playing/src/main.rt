@@ -57,7 +57,7 @@ fn fires(table: &[u8], marking: &mut [u8], event: u16) {
 fn replays<'a>(table: &'a [u8], run: &'a [u16]) {
     let mut end = [9u8; 4];
     io::write_all(STDOUT_FILENO, b"replay ");
-    tell(game::replay(table, run, &mut end));
+    tell(replay::replay(table, run, &mut end));
     show(end);
 }
 
@@ -65,7 +65,7 @@ fn replays<'a>(table: &'a [u8], run: &'a [u16]) {
 fn replays_from<'a>(table: &'a [u8], marking: &'a [u8], run: &'a [u16]) {
     let mut end = [9u8; 4];
     io::write_all(STDOUT_FILENO, b"replay_from ");
-    tell(game::replay_from(table, marking, run, &mut end));
+    tell(replay::replay_from(table, marking, run, &mut end));
     show(end);
 }
 
@@ -73,7 +73,7 @@ fn replays_from<'a>(table: &'a [u8], marking: &'a [u8], run: &'a [u16]) {
 fn exchanges(table: &[u8], k: usize) {
     let mut run = [0u16, 1, 2];
     io::write_all(STDOUT_FILENO, b"exchange ");
-    tell(game::exchange(table, &mut run, k));
+    tell(exchange::exchange(table, &mut run, k));
     io::write_all(STDOUT_FILENO, b":");
     step(run[0]);
     step(run[1]);

@@ -5,7 +5,9 @@ use Prim.Native.Nat.{ℕ, _≤_}
 use lib.ListN.{length}
 use Rattle.refusal.specs.declared.Judged.the-variants.{Fine}
 use Rattle.table.specs.Decoded.{netOf}
-use Rattle.game.specs.Calls.{firedOf, replayOf, endOf, replayFromOf, endFromOf, exchangedOf}
+use Rattle.game.specs.Calls.{firedOf}
+use Rattle.replay.specs.Calls.{replayOf, endOf, replayFromOf, endFromOf}
+use Rattle.exchange.specs.Calls.{exchangedOf}
 
 -- What exchange leaves is accepted by replay, given room, and is replayed as the run it was given: the same answer and the same
 -- end, whatever room there is (01, Runs across: demand 3).

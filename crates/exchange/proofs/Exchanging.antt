@@ -1,0 +1,226 @@
+-- The exchange on bytes is the model's: its premises, the marking before step k, the part that is swapped, and the chain of refusals.
+use Prim.Native.Nat.{ℕ, zero, suc, _-_, _≤_, _<_}
+use native.Mathlib.Omega.{arith}
+use mathlib.Core.Path.{_≡_, refl, sym, ap, _∙_, subst}
+use mathlib.Core.Bool.{Bool, true, false, _&&_}
+use mathlib.Core.Option.{Option, none, some}
+use mathlib.Core.List.{List, [], _∷_, _++_, append-nil}
+use lib.Dec.{T, ltb, ltb→lt, lt→ltb}
+use lib.ListN.{length, getD, take, drop, set, length-drop, drop-of-length-le}
+use lib.Seq.{take-all, length-take-le}
+use borrow.Author.Tests.{eq-eqb, ne-eqb, le-ltb}
+use Rattle.lists.proofs.Bools.{iff}
+use Rattle.lists.specs.Lists.{all, failing, nothing}
+use Rattle.lists.proofs.Tests.{nothing-fails}
+use Rattle.model.specs.Net.{Net, Marking, begin, fire}
+use Rattle.model.specs.Runs.{runs, end, opening, replay}
+use Rattle.model.specs.Exchange.{touch, apart, apartStep, exchanged}
+use Rattle.model.specs.Across.{Refusal, Answer, run, unless, stuck, mostSteps, tooLong, noStep, notApart, exchanging, exchange}
+use Rattle.model.proofs.Firing.{runs-first, runs-rest, runs-cons, can-event}
+use Rattle.model.proofs.Answers.{not-stuck, stuck-none, short-length, length-short}
+use Rattle.refusal.specs.declared.Refusal as table
+use Rattle.refusal.specs.declared.Judged.{Judged}
+use Rattle.refusal.specs.declared.Judged.the-variants.{Fine, Refused}
+use Rattle.refusal.specs.declared.TableCondition.{TableCondition}
+use Rattle.refusal.specs.Answer.{refusedAt}
+use Rattle.refusal.proofs.Chain.{never-both}
+use Rattle.words.specs.Words.{words}
+use Rattle.records.specs.Records.{flags, prePart, postPart}
+use Rattle.table.specs.Walk.{judgeOf}
+use Rattle.table.specs.Decoded.{netOf}
+use Rattle.table.proofs.Decoded.{net-judged}
+use Rattle.game.specs.declared.Failing.{Failing}
+use Rattle.game.specs.declared.Failing.the-variants.{Nothing, At}
+use Rattle.game.specs.declared.Test.the-variants.{Shared, Held, Once}
+use Rattle.model.specs.Lent.{marking}
+use Rattle.game.specs.Steps.{passesOf, failingOf}
+use Rattle.game.specs.Calls.{passing}
+use Rattle.replay.specs.Calls.{begunAt}
+use Rattle.exchange.specs.Calls.{swapping, exchangeOf, exchangedOf}
+use Rattle.exchange.specs.Played.{Found, Exchangeable}
+use Rattle.replay.specs.Played.{Plays}
+use Rattle.replay.proofs.Ends.{left-refused, passing-refused, passing-fine}
+
+-- ---- every condition of a list passes, or one fails
+
+module _ (f : ℕ → Bool) (l : List ℕ) (x : Failing) (is : x ≡ failingOf (failing f l)) where
+  pub some-fails : (b : TableCondition) → x ≡ At b → false ≡ all f l
+  some-fails b e = go (failing f l) (sym is ∙ e) ∙ nothing-fails f l
+    where
+      go : (o : Option ℕ) → failingOf o ≡ At b → false ≡ nothing o
+      go none q = absurd (let z : _≡_ {A = ℕ} 0 1 = cc in omega arith)
+      go (some y) q = refl
+
+  pub none-fails : x ≡ Nothing → true ≡ all f l
+  none-fails e = go (failing f l) (sym is ∙ e) ∙ nothing-fails f l
+    where
+      go : (o : Option ℕ) → failingOf o ≡ Nothing → true ≡ nothing o
+      go none q = refl
+      go (some y) q = absurd (let z : _≡_ {A = ℕ} 0 1 = cc in omega arith)
+
+-- ---- the premises
+
+all-append : (f : ℕ → Bool) (a b : List ℕ) → all f (a ++ b) ≡ (all f a && all f b)
+all-append f [] b = refl
+all-append f (x ∷ a) b = ap (λ (y : Bool). f x && y) (all-append f a b) ∙ assoc (f x) (all f a) (all f b)
+  where
+    assoc : (x y z : Bool) → (x && (y && z)) ≡ ((x && y) && z)
+    assoc true y z = refl
+    assoc false y z = refl
+
+pub never-itself : (n : Net) (m : Marking) (e f : ℕ) → e ≡ f → false ≡ apart n m e f
+unfolding apart
+never-itself n m e f h = rw (eq-eqb e f h)
+
+-- the lists of two events that differ, as they are read
+module _ (s l : List ℕ) (e here f there : ℕ) (p : Found s e here) (q : Found s f there) (differ : e ≡ f → ⊥) (kept preE postE preF postF : List ℕ)
+    (isKept : kept ≡ flags s) (isPreE : preE ≡ prePart s here) (isPostE : postE ≡ postPart s here) (isPreF : preF ≡ prePart s there) (isPostF : postF ≡ postPart s there) where
+  abbrev taken : Bool
+  taken = all (passesOf Shared kept (marking l) (words preF) (words postF)) (words preE)
+
+  abbrev put : Bool
+  put = all (passesOf Shared kept (marking l) (words preF) (words postF)) (words postE)
+
+  abbrev read : Bool
+  read = all (passesOf Held kept (marking l) (words preF) (words postF)) (words preF)
+
+  abbrev both : Bool
+  both = all (passesOf Once kept (marking l) (words preF) (words postF)) (words postE)
+
+  premises : apart (netOf s) (marking l) e f ≡ (true && (taken && put) && read && both)
+  unfolding apart touch
+  premises =
+      rw (net-judged s (Fine (p .events)) (p .judged), ne-eqb e f differ, isKept, isPreE, isPostE, isPreF, isPostF, p .place, q .place, all-append)
+
+  pub apart-by : (a b c d : Bool) → a ≡ taken → b ≡ put → c ≡ read → d ≡ both → ((a && b) && c && d) ≡ apart (netOf s) (marking l) e f
+  apart-by a b c d x y z w = rw (x, y, z, w) (sym premises)
+
+-- ---- a run and the steps before k
+
+module _ (n : Net) where
+  runs-take : (m : Marking) (r : List ℕ) (k : ℕ) → T (runs n m r) → T (runs n m (take k r))
+  unfolding runs
+  runs-take m [] zero t = tt
+  runs-take m [] (suc k) t = tt
+  runs-take m (e ∷ r) zero t = tt
+  runs-take m (e ∷ r) (suc k) t = runs-cons n m e (take k r) (runs-first n m e r t) (runs-take (fire n m e) r k (runs-rest n m e r t))
+
+  runs-event : (m : Marking) (r : List ℕ) (k : ℕ) → T (runs n m r) → k < length r → getD r k 0 < n .events
+  runs-event m [] k t h = absurd (omega arith)
+  runs-event m (e ∷ r) zero t h = ltb→lt e (n .events) (can-event n m e (runs-first n m e r t))
+  runs-event m (e ∷ r) (suc k) t h = runs-event (fire n m e) r k (runs-rest n m e r t) (omega arith)
+
+module _ (s : List ℕ) (n : ℕ) (offsets r : List ℕ) (k : ℕ) (x : Exchangeable s n offsets r k) where
+  pub step-below : (i : ℕ) → i < length r → getD r i 0 < n
+  step-below i h = rw (net-judged s (Fine n) (x .judged)) at (runs-event (netOf s) (begin (netOf s)) r i (x .plays) h)
+
+  pub step-found : (i : ℕ) → i < length r → Found s (getD r i 0) (getD offsets (getD r i 0) 0)
+  step-found i h = record { events = n; judged = x .judged; below = step-below i h; place = x .indexed .each (getD r i 0) (step-below i h) }
+
+  before-is : (answer : Judged) (l : List ℕ) → Plays (netOf s) (begin (netOf s)) (take k r) answer l → marking l ≡ end (netOf s) (begin (netOf s)) (take k r)
+  unfolding begunAt
+  before-is answer l p =
+      let next = x .next in
+      let short = length-short (take k r) (omega (arith, length-take-le k r (omega arith), x .short)) in
+      let free = stuck-none (netOf s) 0 (begunAt (netOf s) (begin (netOf s))) (take k r) (runs-take (netOf s) (begin (netOf s)) r k (x .plays)) in
+      p .reached (netOf s .conditions) (p .told ∙ rw (short, free))
+
+  pub apart-asked : (a i : ℕ) → a ≡ k → i ≡ suc k → (answer : Judged) (l : List ℕ) → Plays (netOf s) (begin (netOf s)) (take a r) answer l
+      → apart (netOf s) (marking l) (getD r k 0) (getD r i 0) ≡ apartStep (netOf s) (begin (netOf s)) r k
+  unfolding apartStep
+  apart-asked a i isA isI answer l p =
+      ap (λ (y : ℕ). apart (netOf s) (marking l) (getD r k 0) (getD r y 0)) isI
+      ∙ ap (λ (m : Marking). apart (netOf s) m (getD r k 0) (getD r (suc k) 0)) (before-is answer l (subst (λ (y : ℕ). Plays (netOf s) (begin (netOf s)) (take y r) answer l) isA p))
+
+-- ---- whether there is a step k + 1
+
+pub next-there : (steps k : ℕ) → k < steps → ltb 1 (steps - k) ≡ ltb (suc k) steps
+next-there steps k h =
+    iff (ltb 1 (steps - k)) (ltb (suc k) steps) (λ t. lt→ltb (suc k) steps (let q = ltb→lt 1 (steps - k) t in omega arith))
+    (λ t. lt→ltb 1 (steps - k) (let q = ltb→lt (suc k) steps t in omega arith))
+
+pub next-missing : (steps k : ℕ) → steps ≤ k → false ≡ ltb (suc k) steps
+next-missing steps k h = sym (le-ltb (suc k) steps (omega arith))
+
+-- ---- the part from k on, swapped and put back
+
+pub swap-is : (l : List ℕ) → 2 ≤ length l → set (set l 0 (getD l 1 0)) 1 (getD l 0 0) ≡ exchanged 0 l
+swap-is [] h = absurd (omega arith)
+swap-is (e ∷ []) h = absurd (omega arith)
+swap-is (e ∷ f ∷ q) h = refl
+
+pub part-room : (k : ℕ) (r : List ℕ) → suc k < length r → 2 ≤ length (take (length r - k) (drop k r))
+part-room k r h = omega (arith, length-drop k r, length-take-le (length r - k) (drop k r) (omega (arith, length-drop k r)))
+
+part-exchanged : (k : ℕ) (r : List ℕ) → take k r ++ exchanged 0 (drop k r) ≡ exchanged k r
+part-exchanged zero [] = refl
+part-exchanged zero (e ∷ []) = refl
+part-exchanged zero (e ∷ f ∷ q) = refl
+part-exchanged (suc k) [] = refl
+part-exchanged (suc k) (x ∷ r) = ap {B = List ℕ} (λ l. x ∷ l) (part-exchanged k r)
+
+pub put-back : (k : ℕ) (r y : List ℕ) → y ≡ exchanged 0 (take (length r - k) (drop k r)) → take k r ++ (y ++ drop (length r - k) (drop k r)) ≡ exchanged k r
+put-back k r y e =
+    let none : drop (length r - k) (drop k r) ≡ [] = drop-of-length-le (drop k r) {i = length r - k} (rw length-drop (omega arith)) in
+    let whole : take (length r - k) (drop k r) ≡ drop k r = take-all (length r - k) (drop k r) (rw length-drop (omega arith)) in
+    rw (none, append-nil, e, whole) (part-exchanged k r)
+
+-- ---- the chain of refusals
+
+swapping-unless : (o : Option Refusal) (a : Answer) → swapping (unless o a) ≡ passing o (swapping a)
+swapping-unless none a = refl
+swapping-unless (some x) a = refl
+
+passing-none : (a b : Option Refusal) (c x : ℕ) → passing a (passing b (Fine c)) ≡ Fine x → (a ≡ none) × (b ≡ none)
+passing-none none none c x e = (refl, refl)
+passing-none none (some y) c x e = never-both (sym e)
+passing-none (some y) b c x e = never-both (sym e)
+
+module _ (s r : List ℕ) (k : ℕ) where
+  -- a refusal leaves the run as it was
+  pub kept-run : (a : Judged) (x : table.Refusal) → a ≡ Refused x → a ≡ exchangeOf s r k → (a ≡ exchangeOf s r k) × (r ≡ exchangedOf s r k)
+  unfolding exchangedOf
+  kept-run a x e h = (h, left-refused (exchangeOf s r k) x (exchanged k r) r (sym h ∙ e))
+
+  module _ (n : ℕ) (j : judgeOf s ≡ Fine n) where
+    abbrev rest : Judged
+    rest = swapping (unless (noStep r k) (unless (notApart (netOf s) r k) (run (exchanged k r))))
+
+    chain : exchangeOf s r k ≡ passing (tooLong r) (passing (stuck (replay (netOf s) 0 (begunAt (netOf s) (begin (netOf s))) r)) rest)
+    unfolding exchangeOf exchange exchanging opening begunAt begin
+    chain =
+        simp j (swapping-unless (tooLong r) (exchanging (netOf s) r k)
+        ∙ ap (passing (tooLong r)) (swapping-unless (stuck (replay (netOf s) 0 (opening (netOf s)) r)) (unless (noStep r k) (unless (notApart (netOf s) r k) (run (exchanged k r))))))
+
+    module _ (answer : Judged) (l : List ℕ) (p : Plays (netOf s) (begin (netOf s)) r answer l) where
+      pub stopped-run : (x : table.Refusal) → answer ≡ Refused x → (answer ≡ exchangeOf s r k) × (r ≡ exchangedOf s r k)
+      stopped-run x e =
+          kept-run answer x e
+          (p .told ∙ passing-refused (tooLong r) (stuck (replay (netOf s) 0 (begunAt (netOf s) (begin (netOf s))) r)) (netOf s .conditions) rest x (sym (p .told) ∙ e) ∙ sym chain)
+
+      module _ (y : ℕ) (e : answer ≡ Fine y) where
+        pub whole-run : T (runs (netOf s) (begin (netOf s)) r) × (length r ≤ mostSteps)
+        unfolding begunAt
+        whole-run =
+            let (a, b) = passing-none (tooLong r) (stuck (replay (netOf s) 0 (begunAt (netOf s) (begin (netOf s))) r)) (netOf s .conditions) y (sym (p .told) ∙ e) in
+            (not-stuck (netOf s) 0 (begunAt (netOf s) (begin (netOf s))) r b, short-length r a)
+
+        goes : rest ≡ exchangeOf s r k
+        goes =
+            passing-fine (tooLong r) (stuck (replay (netOf s) 0 (begunAt (netOf s) (begin (netOf s))) r)) (netOf s .conditions) y rest (sym (p .told) ∙ e) .1
+            ∙ sym chain
+
+        pub no-step : ltb (suc k) (length r) ≡ false → refusedAt 10 k ≡ exchangeOf s r k
+        unfolding noStep
+        no-step h = sym (sym goes ∙ rw h)
+
+        module _ (h : ltb (suc k) (length r) ≡ true) where
+          pub not-apart : apartStep (netOf s) (begin (netOf s)) r k ≡ false → refusedAt 17 k ≡ exchangeOf s r k
+          unfolding noStep notApart
+          not-apart a = sym (sym goes ∙ rw (h, a))
+
+          pub exchanges : apartStep (netOf s) (begin (netOf s)) r k ≡ true → (Fine 2 ≡ exchangeOf s r k) × (exchanged k r ≡ exchangedOf s r k)
+          unfolding noStep notApart exchangedOf
+          exchanges a =
+              let z : Fine 2 ≡ exchangeOf s r k = sym (sym goes ∙ rw (h, a)) in
+              (z, rw (← z))

@@ -1,0 +1,13 @@
+-- An event asked for at a lent marking, before it is tested.
+use mathlib.Core.List.{List}
+use Prim.Native.Nat.{ℕ}
+use lib.Dec.{ltb}
+use Rattle.refusal.specs.declared.Judged.{Judged}
+use Rattle.refusal.specs.declared.Judged.the-variants.{Fine}
+use Rattle.refusal.specs.Answer.{need}
+use Rattle.table.specs.Walk.{offsetOf}
+use Rattle.game.specs.Calls.{onMarking}
+
+-- An event asked for at a lent marking, before it is tested: 1 to 9, 18, 10; fine: the offset of its record (01, Refusal numbers).
+unfoldable pub readyOf : List ℕ → List ℕ → ℕ → Judged
+readyOf s m e = onMarking s m (λ n. need (ltb e n) 10 0 (Fine (offsetOf s e)))

@@ -1,0 +1,159 @@
+-- A run played on bytes, a step at a time: what has been played is a run of the model, and what stops it is what the model's replay says.
+use Prim.Native.Nat.{ℕ, suc, _+_, _≤_, _<_}
+use native.Mathlib.Numerals.{add-one}
+use native.Mathlib.Nat.{zero-add}
+use native.Mathlib.Omega.{arith}
+use mathlib.Core.Path.{_≡_, refl, sym, ap, _∙_, subst}
+use mathlib.Core.Bool.{true}
+use mathlib.Core.Option.{Option, none, some}
+use mathlib.Core.List.{List, [], _∷_, _++_}
+use lib.Dec.{T, ltb→lt}
+use lib.ListN.{length, getD, take, drop}
+use lib.Seq.{take-suc, take-all, split-at, length-take-le}
+use Rattle.lists.specs.Lists.{mem}
+use Rattle.lists.proofs.Bools.{is-false, and-both}
+use Rattle.model.specs.Net.{Net, Sound, Marking, can, fire, Stop, stopping}
+use Rattle.model.specs.Runs.{runs, end, replay}
+use Rattle.model.specs.Across.{stopped, stuck, tooLong, mostSteps}
+use Rattle.model.proofs.Firing.{runs-first, runs-rest, runs-cons, can-event, none-can, fire-none}
+use Rattle.model.proofs.Replay.{stops-replay}
+use Rattle.model.proofs.Answers.{stuck-none, length-short}
+use Rattle.refusal.specs.declared.Judged.{Judged}
+use Rattle.refusal.specs.declared.Judged.the-variants.{Fine}
+use Rattle.refusal.specs.Answer.{refusedAt}
+use Rattle.refusal.proofs.Chain.{never-both}
+use borrow.Author.Tests.{lt-leb}
+use Rattle.game.specs.declared.Cause.{Cause}
+use Rattle.game.specs.declared.Step.{Step}
+use Rattle.game.specs.declared.Step.the-variants.{Goes, Stops}
+use Rattle.game.specs.Steps.{stepOf, stepped, answeredOf}
+use Rattle.game.proofs.Found.{answered-is}
+use Rattle.model.specs.Lent.{bytes, marking}
+use Rattle.game.specs.Lent.{Lent}
+use Rattle.game.specs.Calls.{passing, stoppedAt}
+use Rattle.replay.specs.Calls.{begunAt}
+use Rattle.replay.specs.Played.{Plays}
+use Rattle.model.proofs.Lent.{length-bytes, tidy-marking, marking-bytes}
+use Rattle.game.proofs.Bytes.{lent-bytes}
+
+-- ---- one step more
+
+module _ (n : Net) where
+  runs-snoc : (m : Marking) (a : List ℕ) (e : ℕ) → T (runs n m a) → T (can n (end n m a) e) → T (runs n m (a ++ e ∷ []))
+  unfolding runs end
+  runs-snoc m [] e t c = and-both (can n m e) true c tt
+  runs-snoc m (x ∷ a) e t c = runs-cons n m x (a ++ e ∷ []) (runs-first n m x a t) (runs-snoc (fire n m x) a e (runs-rest n m x a t) c)
+
+  end-snoc : (m : Marking) (a : List ℕ) (e : ℕ) → end n m (a ++ e ∷ []) ≡ fire n (end n m a) e
+  unfolding end
+  end-snoc m [] e = refl
+  end-snoc m (x ∷ a) e = end-snoc (fire n m x) a e
+
+-- firing an event that can fire puts nothing past the conditions, so the bytes tell the new marking
+pub fired-marking : (n : Net) → Sound n → (l : List ℕ) (e : ℕ) → n .conditions ≤ length l → T (can n (marking l) e)
+    → marking (bytes (length l) (fire n (marking l) e)) ≡ fire n (marking l) e
+fired-marking n s l e h c =
+    marking-bytes (length l) (fire n (marking l) e) (λ b p.
+    fire-none n (marking l) e b
+    (is-false (mem b (n .postconditions e)) (λ t. let q = s .post-in e b (ltb→lt e (n .events) (can-event n (marking l) e c)) t in omega arith))
+    (tidy-marking l b p))
+
+-- ---- a run that has come to step k
+
+pub record Going (n : Net) (m : Marking) (r : List ℕ) (k c : ℕ) (l : List ℕ) : Type 0 where
+  pub upto : k ≤ length r
+  pub long : length l ≡ c
+  pub lents : Lent l
+  pub here : marking l ≡ end n m (take k r)
+  pub plays : T (runs n m (take k r))
+
+pub going-start : (n : Net) (r l : List ℕ) → Lent l → Going n (marking l) r 0 (length l) l
+unfolding end runs
+going-start n r l h = record { upto = omega arith; long = refl; lents = h; here = refl; plays = tt }
+
+module _ (n : Net) (m : Marking) (r : List ℕ) (k c : ℕ) (l : List ℕ) (g : Going n m r k c l) where
+  module _ (h : k < length r) where
+    pub going-on : Sound n → n .conditions ≤ c → stopping n (marking l) (getD r k 0) ≡ none
+        → (new : List ℕ) → new ≡ bytes (length l) (fire n (marking l) (getD r k 0)) → Going n m r (k + 1) c new
+    going-on s room o new e =
+        let can-fire = none-can n (marking l) (getD r k 0) o in
+        let next : take (k + 1) r ≡ take k r ++ (getD r k 0 ∷ []) = rw add-one (take-suc r k 0 h) in
+        record {
+          upto = omega arith;
+          long = ap length e ∙ length-bytes (length l) (fire n (marking l) (getD r k 0)) ∙ g .long;
+          lents = rw e (lent-bytes (length l) (fire n (marking l) (getD r k 0)));
+          here = ap marking e ∙ fired-marking n s l (getD r k 0) (omega (arith, g .long)) can-fire
+              ∙ ap (λ (x : Marking). fire n x (getD r k 0)) (g .here) ∙ sym (end-snoc n m (take k r) (getD r k 0)) ∙ ap (end n m) (sym next);
+          plays = rw next (runs-snoc n m (take k r) (getD r k 0) (g .plays) (subst (λ (x : Marking). T (can n x (getD r k 0))) (g .here) can-fire));
+        }
+
+    pub going-stop : (v : Stop) → stopping n (marking l) (getD r k 0) ≡ some v → stuck (replay n 0 (begunAt n m) r) ≡ some (stopped v k)
+    unfolding begunAt
+    going-stop v o =
+        ap stuck (stops-replay n 0 (begunAt n m) r v k record {
+          before = take k r;
+          event = getD r k 0;
+          rest = drop (suc k) r;
+          splits = split-at r k 0 h;
+          place = rw (length-take-le k r (g .upto), zero-add);
+          plays = g .plays;
+          stops = rw (g .here) at o;
+        })
+
+  module _ (h : length r ≤ k) where
+    whole : take k r ≡ r
+    whole = take-all k r h
+
+    pub going-end : marking l ≡ end n m r
+    going-end = g .here ∙ ap (end n m) whole
+
+    pub going-free : stuck (replay n 0 (begunAt n m) r) ≡ none
+    unfolding begunAt
+    going-free = stuck-none n 0 (begunAt n m) r (subst (λ (x : List ℕ). T (runs n m x)) whole (g .plays))
+
+-- ---- the step's answer q, for the step that stands at k
+
+step-none : (o : Option Stop) (q : Step) → q ≡ stepOf o → q ≡ Goes → o ≡ none
+step-none none q e h = refl
+step-none (some v) q e h = absurd (let z : _≡_ {A = ℕ} 0 1 = cc in omega arith)
+
+step-some : (o : Option Stop) (q : Step) (x : Cause) → q ≡ stepOf o → q ≡ Stops x → (v : Stop) × (o ≡ some v)
+step-some none q x e h = absurd (let z : _≡_ {A = ℕ} 0 1 = cc in omega arith)
+step-some (some v) q x e h = (v, refl)
+
+module _ (n : Net) (m : Marking) (r : List ℕ) (k c : ℕ) (l : List ℕ) (g : Going n m r k c l) (h : k < length r) (q : Step)
+    (told : q ≡ stepOf (stopping n (marking l) (getD r k 0))) (new : List ℕ)
+    (left : new ≡ stepped (stopping n (marking l) (getD r k 0)) (bytes (length l) (fire n (marking l) (getD r k 0))) l) where
+  pub step-on : Sound n → n .conditions ≤ c → q ≡ Goes → Going n m r (k + 1) c new
+  step-on s room e =
+      let o = step-none (stopping n (marking l) (getD r k 0)) q told e in
+      going-on n m r k c l g h s room o new (left ∙ rw o)
+
+  pub step-ends : n .conditions ≤ c → length r ≤ mostSteps → (x : Cause) → q ≡ Stops x → (answer : Judged) → answer ≡ answeredOf q k 0 → Plays n m r answer new
+  step-ends room short x e answer a =
+      let (v, o) = step-some (stopping n (marking l) (getD r k 0)) q x told e in
+      let kept : new ≡ l = left ∙ rw o in
+      let is : answer ≡ passing (stoppedAt k (some v)) (Fine 0) = a ∙ ap (λ (y : Step). answeredOf y k 0) (told ∙ ap stepOf o) ∙ answered-is (some v) k 0 in
+      record {
+        told = is ∙ rw (length-short r short, going-stop n m r k c l g h v o);
+        lents = subst (λ (y : List ℕ). Lent y) (sym kept) (g .lents);
+        room = omega (arith, ap length kept, g .long);
+        reached = λ y f. never-both (sym f ∙ is);
+      }
+
+-- ---- a run that is too long, and one that comes to its end
+
+pub too-long : (n : Net) (m : Marking) (r l : List ℕ) → Lent l → n .conditions ≤ length l → mostSteps < length r → (answer : Judged) → answer ≡ refusedAt 3 0 → Plays n m r answer l
+unfolding tooLong
+too-long n m r l h room long answer a =
+    record { told = a ∙ rw (lt-leb (length r) mostSteps long); lents = h; room = room; reached = λ x f. never-both (sym f ∙ a) }
+
+pub comes-to-end : (n : Net) (m : Marking) (r : List ℕ) (k c : ℕ) (l : List ℕ) → Going n m r k c l → n .conditions ≤ c → length r ≤ k → length r ≤ mostSteps → (x : ℕ) → x ≡ n .conditions
+    → Plays n m r (Fine x) l
+comes-to-end n m r k c l g room h short x e =
+    record {
+      told = rw (length-short r short, going-free n m r k c l g h) (ap Fine e);
+      lents = g .lents;
+      room = omega (arith, g .long);
+      reached = λ y f. going-end n m r k c l g h;
+    }

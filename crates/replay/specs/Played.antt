@@ -1,0 +1,36 @@
+-- What the inner functions of a run need and leave: the index of all offsets, and a run played on bytes.
+use mathlib.Core.Path.{_≡_}
+use mathlib.Core.List.{List}
+use Prim.Native.Nat.{ℕ, _≤_, _<_}
+use lib.ListN.{length, getD}
+use Rattle.model.specs.Net.{Net, Marking}
+use Rattle.model.specs.Runs.{end, replay}
+use Rattle.model.specs.Across.{stuck, tooLong}
+use Rattle.refusal.specs.declared.Judged.{Judged}
+use Rattle.refusal.specs.declared.Judged.the-variants.{Fine}
+use Rattle.records.specs.Records.{conditions}
+use Rattle.table.specs.Walk.{judgeOf, offsetOf}
+use Rattle.model.specs.Lent.{marking}
+use Rattle.game.specs.Lent.{Lent}
+use Rattle.game.specs.Calls.{passing}
+use Rattle.replay.specs.Calls.{begunAt}
+
+-- The first n numbers of a list are the offsets of the n events of a table.
+pub record Indexed (s : List ℕ) (n : ℕ) (l : List ℕ) : Type 0 where
+  pub long : n ≤ length l
+  pub each : (e : ℕ) → e < n → getD l e 0 ≡ offsetOf s e
+
+-- A judged table with its index, and bytes to be played on, as many as its conditions or more.
+pub record Playable (s : List ℕ) (n : ℕ) (offsets l : List ℕ) : Type 0 where
+  pub judged : judgeOf s ≡ Fine n
+  pub indexed : Indexed s n offsets
+  pub lents : Lent l
+  pub room : conditions s ≤ length l
+
+-- A run played from a marking: the answer is 3, then what its steps say, and where it is fine the bytes are those of the end (01,
+-- Refusal numbers).
+pub record Plays (n : Net) (m : Marking) (r : List ℕ) (answer : Judged) (l : List ℕ) : Type 0 where
+  pub told : answer ≡ passing (tooLong r) (passing (stuck (replay n 0 (begunAt n m) r)) (Fine (n .conditions)))
+  pub lents : Lent l
+  pub room : n .conditions ≤ length l
+  pub reached : (x : ℕ) → answer ≡ Fine x → marking l ≡ end n m r
