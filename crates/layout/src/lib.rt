@@ -20,7 +20,7 @@ pub fn is_persistent(table: &[u8], b: usize) -> bool
     words::byte(records::part_of(table, 4, n), b) == 1
 }
 
-// The product of two counts, no more than one over the limit.
+// The product of two counts, cut one over `refusal::MOST_UNFOLDED`, where it is still over the limit.
 fn capped_product(a: u32, b: u32) -> u32
     ensures { λ r. ⌜ r ≡ capped (a * b) ⌝ }
 {
@@ -133,10 +133,10 @@ pub fn lay_out(table: &[u8], markers: &mut [u32], users: &mut [u32], bases: &mut
     let Judged::Fine(total) = t else {
         return t;
     };
-    if 65535 < tally::number(&bases[..], words::word(table, 0) as usize) {
+    if refusal::MOST_UNFOLDED < tally::number(&bases[..], words::word(table, 0) as usize) {
         return refusal::refused(14, 0);
     }
-    if 65535 < total {
+    if (refusal::MOST_UNFOLDED as usize) < total {
         return refusal::refused(14, 0);
     }
     Judged::Fine(events)

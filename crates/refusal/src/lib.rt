@@ -1,6 +1,12 @@
-// What every call shares: the refusal with its number and place, the four numberings kept apart, and the marker.
+// What every call shares: the limits, the refusal with its number and place, the four numberings kept apart, and the marker.
 ghost use mathlib.Core.Path.{_≡_};
 ghost use Rattle.refusal.specs.Answer.{refusedAt, numberOf, placeOf, valueOf};
+
+// A run has at most this many steps.
+pub const MOST_STEPS: usize = 4096;
+
+// An unfolding has at most this many conditions, and as many events.
+pub const MOST_UNFOLDED: u32 = 65535;
 
 // Why a call is refused, by number, and where.
 pub struct Refusal {

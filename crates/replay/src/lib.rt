@@ -71,7 +71,7 @@ pub fn play<'a>(
     requires { ⌜ Playable (now table) n (now offsets) (now state) ⌝ }
     ensures { λ r. ⌜ Plays (netOf (now (table .entry))) (marking (now (state .entry))) (now (run .entry)) r (now (state .exit)) ⌝ }
 {
-    if 4096 < run.len() {
+    if refusal::MOST_STEPS < run.len() {
         return refusal::refused(3, 0);
     }
     let mut k: usize = 0;

@@ -16,9 +16,6 @@ const RUN: u16 = 4;
 // The kind of a Lifted record.
 const LIFTED: u16 = 5;
 
-// The most steps that a run or a lifted run has.
-const MOST_STEPS: usize = 4096;
-
 // How many steps an input has that must be one record of the kind and nothing more, or its refusal (1, 2, 3, 9).
 fn steps_in(bytes: &[u8], kind: u16) -> Judged
     ensures { λ r. ⌜ r ≡ stepsIn kind (now (bytes .entry)) ⌝ }
@@ -33,7 +30,7 @@ fn steps_in(bytes: &[u8], kind: u16) -> Judged
     if len % 2 != 0 {
         return refused(3, 0);
     }
-    if MOST_STEPS < len / 2 {
+    if refusal::MOST_STEPS < len / 2 {
         return refused(3, 0);
     }
     if 4 + len < bytes.len() {
@@ -89,7 +86,7 @@ fn write_record(run: &[u16], kind: u16, bytes: &mut [u8]) -> Judged
     ensures lent { λ _. ⌜ now (bytes .exit) ≡ recordInto kind (now (run .entry)) (now (bytes .entry)) ⌝ }
 {
     let steps = run.len();
-    if MOST_STEPS < steps {
+    if refusal::MOST_STEPS < steps {
         return refused(3, 0);
     }
     let needed = 4 + 2 * steps;

@@ -111,6 +111,7 @@ lay-out-spec =
     (λ c. search needs)
     (λ c. search needs)
     returns-3
+    (λ c. search needs)
     (λ c κs. search needs)
     (λ c. search needs)
     (λ c. search needs)
