@@ -39,7 +39,7 @@ fn fill(counts: &mut [u32], first: u32)
 }
 
 // One more for each condition of a list.
-fn raise(counts: &mut [u32], list: &[u8])
+pub fn raise(counts: &mut [u32], list: &[u8])
     requires { ⌜ Room (now counts) (now list) ⌝ }
     ensures { λ r. ⌜ now (counts .exit) ≡ raised (now (counts .entry)) (words (now (list .entry))) ⌝ }
 {

@@ -1,0 +1,4 @@
+pub mod Ranges
+pub mod Where
+pub mod Steps
+pub mod Ends

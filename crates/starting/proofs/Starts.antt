@@ -1,0 +1,97 @@
+-- The start of the unfolding: what the writer of copies leaves at the start, and how the call answers.
+use Prim.Native.Nat.{ℕ, zero, suc, _≤_, _<_}
+use native.Mathlib.Omega.{arith}
+use mathlib.Core.Path.{_≡_, refl, sym, ap, ap₂, _∙_, fun-ext}
+use mathlib.Core.Bool.{Bool, false}
+use mathlib.Core.List.{List, _++_}
+use lib.Dec.{eqb}
+use lib.ListN.{length, getD, drop, replicate, length-replicate}
+use borrow.Author.Tests.{le-leb, lt-leb}
+use Rattle.model.specs.Net.{Marking, begin}
+use Rattle.model.specs.Lent.{bit, bytes, marking}
+use Rattle.model.specs.Unfolding.{basic}
+use Rattle.model.proofs.Lent.{length-bytes, bytes-are, marking-bytes, tidy-begin}
+use Rattle.model.proofs.Counts.{count-conditions}
+use Rattle.refusal.specs.declared.Refusal.{Refusal}
+use Rattle.refusal.specs.declared.Judged.{Judged}
+use Rattle.refusal.specs.declared.Judged.the-variants.{Fine, Refused}
+use Rattle.refusal.specs.Answer.{refusedAt, fitting, written}
+use Rattle.refusal.proofs.Chain.{need-passes, need-refuses}
+use Rattle.words.specs.Words.{wordAt}
+use Rattle.table.specs.Walk.{judgeOf}
+use Rattle.table.specs.Decoded.{netOf}
+use Rattle.table.proofs.Sound.{tabled}
+use Rattle.layout.specs.Laid.{Laid}
+use Rattle.layout.specs.Unfolds.{unfoldingOf}
+use Rattle.layout.proofs.Limits.{events-are-all, count-read, unfolds-on, unfolds-judged}
+use Rattle.copies.specs.Copies.{copiesOf}
+use Rattle.copies.specs.Writing.{Roomy, Prepared}
+use Rattle.copies.proofs.Ends.{copies-begin}
+use Rattle.starting.specs.Calls.{unfoldedStartOf, unfoldedStartedOf}
+
+-- ---- no event has occurred
+
+zeros-at : (c i : ℕ) → _≡_ {A = ℕ} (getD (replicate c 0) i 0) 0
+zeros-at zero i = refl
+zeros-at (suc c) zero = refl
+zeros-at (suc c) (suc i) = zeros-at c i
+
+zeros-say : (l : List ℕ) (c : ℕ) → l ≡ replicate c 0 → marking l ≡ (λ e. false)
+unfolding marking
+zeros-say l c q = fun-ext (λ e. ap (λ (x : ℕ). eqb x 1) (ap (λ (x : List ℕ). getD x e 0) q ∙ zeros-at c e))
+
+pub zeros-lent : (l : List ℕ) (c : ℕ) → l ≡ replicate c 0 → l ≡ bytes c (marking l)
+zeros-lent l c q =
+    bytes-are l c (marking l) (ap (λ (x : List ℕ). length x) q ∙ length-replicate c 0)
+    (λ i h. ap (λ (x : List ℕ). getD x i 0) q ∙ zeros-at c i ∙ sym (ap (λ (m : Marking). bit (m i)) (zeros-say l c q)))
+
+-- ---- what holds is what held at the start
+
+module _ (s : List ℕ) (k : ℕ) (j : judgeOf s ≡ Fine k) (state : List ℕ) (e : state ≡ bytes 256 (begin (netOf s))) where
+  begun : marking state ≡ begin (netOf s)
+  begun =
+      let t = tabled s k j in
+      ap marking e ∙ marking-bytes 256 (begin (netOf s)) (λ b h. tidy-begin (netOf s) (t .sound) b (omega (arith, t .few-conditions)))
+
+  pub start-prepared : (us bases : List ℕ) (room : ℕ) → Roomy s us bases room → Prepared s us bases state state room
+  start-prepared us bases room g = record { roomy = g; started = e; lent = e ∙ ap (λ (m : Marking). bytes 256 m) (sym begun) }
+
+  pub start-written : (seen : List ℕ) → seen ≡ replicate 256 0 → (out after : List ℕ) → after ≡ copiesOf (netOf s) (marking state) (marking seen) ++ drop (basic (netOf s) .conditions) out
+      → after ≡ bytes (basic (netOf s) .conditions) (begin (basic (netOf s))) ++ drop (basic (netOf s) .conditions) out
+  start-written seen q out after w =
+      w ∙ ap (λ (l : List ℕ). l ++ drop (basic (netOf s) .conditions) out) (ap₂ (λ (m : Marking) (f : ℕ → Bool). copiesOf (netOf s) m f) begun (zeros-say seen 256 q) ∙ copies-begin (netOf s))
+
+-- ---- how the call answers
+
+-- a table that was laid out was judged, with as many events
+pub laid-judged : (s : List ℕ) {r : Judged} → r ≡ unfoldingOf s (Fine (netOf s .events)) → {m : ℕ} → r ≡ Fine m → judgeOf s ≡ Fine m
+laid-judged s e {m} t =
+    let j = unfolds-judged s (Fine 0) (netOf s .events) e t in
+    j .1 ∙ ap Fine (events-are-all s (j .0) (j .1) ∙ sym (unfolds-on s (Fine 0) (netOf s .events) e t .1))
+
+-- the sum after the last condition counts the unfolded conditions
+pub count-is : (s ms us bases : List ℕ) (k : ℕ) → judgeOf s ≡ Fine k → Laid s ms us bases → (w : ℕ) → w ≡ wordAt s 0 → getD bases w 0 ≡ basic (netOf s) .conditions
+unfolding basic
+count-is s ms us bases k j l w e = ap (λ (x : ℕ). getD bases x 0) e ∙ count-read s k j bases (l .sums) ∙ sym (count-conditions (netOf s))
+
+module _ (s out : List ℕ) where
+  pub start-refused : {r : Judged} {x : Refusal} → r ≡ unfoldedStartOf s (length out) → r ≡ Refused x → out ≡ unfoldedStartedOf s out
+  unfolding unfoldedStartedOf
+  start-refused e t = sym (ap (λ (a : Judged). written a (bytes (basic (netOf s) .conditions) (begin (basic (netOf s)))) out) (sym e ∙ t))
+
+  pub start-fine : {r : Judged} {k : ℕ} → r ≡ unfoldedStartOf s (length out) → r ≡ Fine k → (after : List ℕ)
+      → after ≡ bytes (basic (netOf s) .conditions) (begin (basic (netOf s))) ++ drop (basic (netOf s) .conditions) out → after ≡ unfoldedStartedOf s out
+  unfolding unfoldedStartedOf
+  start-fine e t after w =
+      w ∙ ap (λ (c : ℕ). bytes (basic (netOf s) .conditions) (begin (basic (netOf s))) ++ drop c out) (sym (length-bytes (basic (netOf s) .conditions) (begin (basic (netOf s)))))
+      ∙ sym (ap (λ (a : Judged). written a (bytes (basic (netOf s) .conditions) (begin (basic (netOf s)))) out) (sym e ∙ t))
+
+  module _ (u : (own : Judged) → unfoldingOf s own ≡ own) (count : ℕ) (c : count ≡ basic (netOf s) .conditions) where
+    pub start-short : length out < count → refusedAt 16 count ≡ unfoldedStartOf s (length out)
+    unfolding unfoldedStartOf fitting
+    start-short h =
+        ap (refusedAt 16) c ∙ sym (u _ ∙ need-refuses 16 (basic (netOf s) .conditions) (Fine (basic (netOf s) .conditions)) (lt-leb (basic (netOf s) .conditions) (length out) (omega arith)))
+
+    pub start-room : count ≤ length out → Fine count ≡ unfoldedStartOf s (length out)
+    unfolding unfoldedStartOf fitting
+    start-room h = ap Fine c ∙ sym (u _ ∙ need-passes 16 (basic (netOf s) .conditions) (le-leb (basic (netOf s) .conditions) (length out) (omega arith)))
