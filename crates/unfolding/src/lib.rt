@@ -36,7 +36,7 @@ pub struct EventOrigin {
 }
 
 // The event that a number belongs to, its offset, what is left of the number, and its number of colours.
-enum Found {
+pub enum Found {
     At(usize, usize, u32, u32),
     Past,
 }
@@ -70,7 +70,7 @@ fn pushed(c: Colour, m: Marker) -> Colour
 }
 
 // The marker at a place among those of condition b.
-fn marker_at(table: &[u8], events: usize, b: usize, place: usize) -> Marker
+pub fn marker_at(table: &[u8], events: usize, b: usize, place: usize) -> Marker
     requires { ⌜ events ≡ netOf (now table) .events ⌝ }
     requires { ⌜ events ≤ 256 ⌝ }
     requires { ⌜ place < length (markers (netOf (now table)) b) ⌝ }
@@ -97,7 +97,7 @@ pub fn marker_place(table: &[u8], events: usize, b: usize, m: Marker) -> usize
 }
 
 // The event that an unfolded event's number belongs to.
-fn owner<'a>(table: &'a [u8], events: usize, markers: &'a [u32], j: u32) -> Found
+pub fn owner<'a>(table: &'a [u8], events: usize, markers: &'a [u32], j: u32) -> Found
     requires { ⌜ Within (now table) (now markers) events ⌝ }
     ensures { λ r. ⌜ Belongs (now (table .entry)) j r ⌝ }
 {

@@ -1,0 +1,5 @@
+-- Each module stands on those above it.
+pub mod Prefix
+pub mod Conditions
+pub mod Colours
+pub mod Events
