@@ -1,0 +1,106 @@
+-- A step of the unfolded net on bytes is the model's: what stops it, and what the bytes set in turn come to.
+use mathlib.Core.Path.{_≡_, refl, sym, _∙_, ap}
+use mathlib.Core.Bool.{Bool, true, false, not, _&&_, _||_, cond}
+use mathlib.Core.Option.{Option, none, some}
+use mathlib.Core.List.{List, []}
+use Prim.Native.Nat.{ℕ, _<_}
+use lib.Dec.{T, ltb}
+use lib.ListN.{length}
+use native.Mathlib.Omega.{arith}
+use Rattle.lists.specs.Lists.{mem}
+use Rattle.model.specs.Net.{Net, Marking, free, lacking, contact, fire, Stop, unknown, lacks, meets, stopping}
+use Rattle.lists.proofs.Places.{at-lt}
+use Rattle.model.specs.Unfolding.{unfoldedConditions, basic}
+use Rattle.model.specs.Numbering.{conditionCount}
+use Rattle.model.proofs.Unfolded.{in-pre, in-post}
+use Rattle.model.proofs.Counts.{count-conditions}
+use Rattle.tally.specs.Having.{listOf}
+use Rattle.model.specs.Lent.{bit, bytes, marking}
+use Rattle.model.proofs.Lent.{bytes-are}
+use Rattle.refusal.specs.declared.Judged.the-variants.{Fine}
+use Rattle.game.specs.Lent.{Lent}
+use Rattle.game.specs.Steps.{setAll, stepped}
+use Rattle.game.specs.Calls.{passing, stoppedAt, leaves}
+use Rattle.game.proofs.Bytes.{lent-at}
+use Rattle.game.proofs.Firing.{length-all, all-at}
+use Rattle.walking.specs.declared.Cause.{Cause}
+use Rattle.walking.specs.declared.Step.{Step}
+use Rattle.walking.specs.declared.Step.the-variants.{Goes, Stops}
+use Rattle.walking.specs.Steps.{stepOf, stops}
+use Rattle.firing.specs.Steps.{answeredOf}
+
+-- ---- the unfolded net
+
+module _ (n : Net) (j : ℕ) where
+  stops-basic : (m : Marking) → ltb j (basic n .events) ≡ true → stops m (basic n .preconditions j) (basic n .postconditions j) ≡ stopping (basic n) m j
+  unfolding stopping lacking contact free basic
+  stops-basic m low = rw low
+
+  pub stops-past : (m : Marking) → ltb j (basic n .events) ≡ false → stopping (basic n) m j ≡ some unknown
+  unfolding stopping
+  stops-past m high = rw high
+
+  fired-at : (z a m : Bool) → cond (z && true) 1 (cond (a && true) 0 (bit m)) ≡ bit (z || m && (false || not a))
+  fired-at true a m = refl
+  fired-at false true true = refl
+  fired-at false true false = refl
+  fired-at false false true = refl
+  fired-at false false false = refl
+
+  fired : (l : List ℕ) → Lent l → setAll [] 1 (basic n .postconditions j) (setAll [] 0 (basic n .preconditions j) l) ≡ bytes (length l) (fire (basic n) (marking l) j)
+  unfolding fire basic
+  fired l lent =
+      let pre = basic n .preconditions j in
+      let post = basic n .postconditions j in
+      let taken = setAll [] 0 pre l in
+      bytes-are _ (length l) _ (length-all [] 1 post taken ∙ length-all [] 0 pre l)
+      (λ i h.
+      all-at [] 1 post taken i (rw length-all h)
+      ∙ ap (cond (mem i post && true) 1) (all-at [] 0 pre l i h ∙ ap (cond (mem i pre && true) 0) (lent-at l lent i h))
+      ∙ fired-at (mem i post) (mem i pre) (marking l i))
+
+  module _ (l pre post : List ℕ) (low : ltb j (basic n .events) ≡ true) (ip : pre ≡ basic n .preconditions j) (iq : post ≡ basic n .postconditions j)
+      (r : Step) (told : r ≡ stepOf (stops (marking l) pre post)) where
+    pub step-told : r ≡ stepOf (stopping (basic n) (marking l) j)
+    step-told =
+        let same : stops (marking l) pre post ≡ stopping (basic n) (marking l) j = rw (ip, iq) (stops-basic (marking l) low) in
+        told ∙ ap stepOf same
+
+    pub step-kept : (x : Cause) → r ≡ Stops x → (new : List ℕ) → l ≡ stepped (stopping (basic n) (marking l) j) new l
+    step-kept x h new = go (stopping (basic n) (marking l) j) (sym step-told ∙ h)
+      where
+        go : (o : Option Stop) → stepOf o ≡ Stops x → l ≡ stepped o new l
+        go none e = absurd (let z : _≡_ {A = ℕ} 0 1 = cc in omega arith)
+        go (some v) e = refl
+
+    pub step-written : r ≡ Goes → Lent l → (c : ℕ) → length l ≡ c
+        → setAll [] 1 post (setAll [] 0 pre l) ≡ stepped (stopping (basic n) (marking l) j) (bytes c (fire (basic n) (marking l) j)) l
+    step-written h lent c long =
+        rw (ip, iq) (fired l lent) ∙ ap (λ (k : ℕ). bytes k (fire (basic n) (marking l) j)) long ∙ go (stopping (basic n) (marking l) j) (sym step-told ∙ h)
+      where
+        go : (o : Option Stop) → stepOf o ≡ Goes → bytes c (fire (basic n) (marking l) j) ≡ stepped o (bytes c (fire (basic n) (marking l) j)) l
+        go none e = refl
+        go (some v) e = absurd (let z : _≡_ {A = ℕ} 0 1 = cc in omega arith)
+
+-- ---- the numbers of its lists
+
+pub all-conditions : (n : Net) → basic n .conditions ≡ conditionCount n
+unfolding basic
+all-conditions n = count-conditions n
+
+pub list-inside : (n : Net) (j : ℕ) (post : Bool) (b : ℕ) → T (mem b (listOf (basic n) post j)) → b < basic n .conditions
+unfolding basic
+list-inside n j true b t = at-lt (unfoldedConditions n) b (in-post n j b t .1)
+list-inside n j false b t = at-lt (unfoldedConditions n) b (in-pre n j b t .1)
+
+-- ---- the call
+
+pub answers : (o : Option Stop) (c : ℕ) → answeredOf (stepOf o) c ≡ passing (stoppedAt 0 o) (Fine c)
+answers none c = refl
+answers (some unknown) c = refl
+answers (some (lacks b)) c = refl
+answers (some (meets b)) c = refl
+
+pub leaves-so : (o : Option Stop) (c : ℕ) (new old : List ℕ) → stepped o new old ≡ leaves (passing (stoppedAt 0 o) (Fine c)) new old
+leaves-so none c new old = refl
+leaves-so (some v) c new old = refl

@@ -1,0 +1,39 @@
+-- What a step of the unfolded net answers as a call, and what a lent unfolded marking must be.
+use Prim.Native.Nat.{ℕ}
+use mathlib.Core.Path.{_≡_}
+use mathlib.Core.List.{List}
+use lib.ListN.{length}
+use Rattle.model.specs.Unfolding.{basic}
+use Rattle.refusal.specs.declared.Judged.{Judged}
+use Rattle.refusal.specs.declared.Judged.the-variants.{Fine, Refused}
+use Rattle.refusal.specs.declared.Refusal.{Refusal}
+use Rattle.refusal.specs.Answer.{refusedAt}
+use Rattle.table.specs.Decoded.{netOf}
+use Rattle.layout.specs.Unfolds.{unfoldingOf}
+use Rattle.layout.specs.Laid.{Laid}
+use Rattle.game.specs.Lent.{Lent, lent}
+use Rattle.walking.specs.declared.Cause.{Cause}
+use Rattle.walking.specs.declared.Cause.the-variants.{Unknown, Lacks, Meets}
+use Rattle.walking.specs.declared.Step.{Step}
+use Rattle.walking.specs.declared.Step.the-variants.{Goes, Stops}
+
+-- The number of what stops a step (01, Refusal numbers).
+abbrev pub causeNumber : Cause → ℕ
+causeNumber Unknown = 10
+causeNumber (Lacks b) = 11
+causeNumber (Meets b) = 12
+
+-- A step's answer as that of the call: a value where it goes, else the refusal at place 0 (01, Refusal numbers).
+abbrev pub answeredOf : Step → ℕ → Judged
+answeredOf Goes value = Fine value
+answeredOf (Stops x) value = refusedAt (causeNumber x) 0
+
+-- A table laid out and a lent unfolded marking judged: what refuses them refuses the call, and where nothing does the call's own answer
+-- follows, with what is then known (01, Refusal numbers).
+pub record Lending (s m : List ℕ) (r : Judged) (markers users bases : List ℕ) : Type 0 where
+  pub refuses : (own : Judged) (x : Refusal) → r ≡ Refused x → r ≡ unfoldingOf s (lent (basic (netOf s) .conditions) m own)
+  pub goes : (own : Judged) (k : ℕ) → r ≡ Fine k → unfoldingOf s (lent (basic (netOf s) .conditions) m own) ≡ own
+  pub laid : (k : ℕ) → r ≡ Fine k → Laid s markers users bases
+  pub lents : (k : ℕ) → r ≡ Fine k → Lent m
+  pub long : (k : ℕ) → r ≡ Fine k → length m ≡ basic (netOf s) .conditions
+  pub events : (k : ℕ) → r ≡ Fine k → k ≡ netOf s .events

@@ -1,0 +1,157 @@
+// The firing of an unfolded event on a lent unfolded marking: its lists are walked as ranges, and none of their numbers is kept.
+use refusal::Judged;
+use refusal::UnfoldedEvent;
+use unfolding::Found;
+use walking::Cause;
+use walking::Step;
+ghost use mathlib.Core.Path.{_≡_};
+ghost use Prim.Native.Nat.{_+_};
+ghost use lib.ListN.{length};
+ghost use Rattle.lists.specs.Lists.{sum};
+ghost use Rattle.model.specs.Net.{fire, stopping};
+ghost use Rattle.model.specs.Unfolding.{basic};
+ghost use Rattle.model.specs.Numbering.{size};
+ghost use Rattle.model.specs.Lent.{bytes, marking};
+ghost use Rattle.table.specs.Decoded.{netOf};
+ghost use Rattle.segments.specs.Ranges.{Owned};
+ghost use Rattle.game.specs.Lent.{Lent};
+ghost use Rattle.game.specs.Steps.{stepped};
+ghost use Rattle.walking.specs.Steps.{stepOf};
+ghost use Rattle.firing.specs.Calls.{unfoldedFireOf, unfoldedFiredOf};
+ghost use Rattle.firing.specs.Steps.{causeNumber, answeredOf, Lending};
+
+// One step of the unfolded net: the unfolded event that event e and what is left of a number name is tested, then fired.
+fn step_at<'a>(
+    table: &'a [u8],
+    markers: &'a [u32],
+    users: &'a [u32],
+    bases: &'a [u32],
+    e: usize,
+    at: usize,
+    weight: u32,
+    rest: u32,
+    state: &mut [u8],
+) -> Step
+    requires { ⌜ Owned (now table) (now markers) (now users) (now bases) e at weight rest ⌝ }
+    requires { ⌜ length (now state) ≡ basic (netOf (now table)) .conditions ⌝ }
+    requires { ⌜ Lent (now state) ⌝ }
+    ensures answer { λ r. ⌜ r ≡ stepOf (stopping (basic (netOf (now (table .entry)))) (marking (now (state .entry))) (sum (size (netOf (now (table .entry)))) e + rest)) ⌝ }
+    ensures after { λ _. ⌜ now (state .exit) ≡ stepped (stopping (basic (netOf (now (table .entry)))) (marking (now (state .entry))) (sum (size (netOf (now (table .entry)))) e + rest)) (bytes (basic (netOf (now (table .entry))) .conditions) (fire (basic (netOf (now (table .entry)))) (marking (now (state .entry))) (sum (size (netOf (now (table .entry)))) e + rest))) (now (state .entry)) ⌝ }
+{
+    let mut starts = [0u32; 512];
+    let mut sizes = [0u32; 512];
+    let taken = segments::ranges(
+        table,
+        markers,
+        users,
+        bases,
+        e,
+        at,
+        weight,
+        rest,
+        false,
+        &mut starts,
+        &mut sizes,
+    );
+    let mut firsts = [0u32; 512];
+    let mut widths = [0u32; 512];
+    let put = segments::ranges(
+        table,
+        markers,
+        users,
+        bases,
+        e,
+        at,
+        weight,
+        rest,
+        true,
+        &mut firsts,
+        &mut widths,
+    );
+    let answer = walking::test(&state[..], &starts, &sizes, taken, &firsts, &widths, put);
+    let Step::Goes = answer else {
+        return answer;
+    };
+    walking::set_ranges(&starts, &sizes, taken, 0, state);
+    walking::set_ranges(&firsts, &widths, put, 1, state);
+    answer
+}
+
+// The number of what stops a step.
+fn cause_number(cause: Cause) -> u8
+    ensures { λ r. ⌜ r ≡ causeNumber cause ⌝ }
+{
+    match cause {
+        Cause::Unknown => 10,
+        Cause::Lacks(_) => 11,
+        Cause::Meets(_) => 12,
+    }
+}
+
+// A step's answer as that of the call: a value where it goes, else the refusal.
+fn answered(step: Step, value: usize) -> Judged
+    ensures { λ r. ⌜ r ≡ answeredOf step value ⌝ }
+{
+    match step {
+        Step::Goes => Judged::Fine(value),
+        Step::Stops(cause) => refusal::refused(cause_number(cause), 0),
+    }
+}
+
+// A table laid out and a lent unfolded marking of it judged; fine: the number of the table's events.
+fn lend<'a>(
+    table: &'a [u8],
+    state: &'a [u8],
+    markers: &mut [u32],
+    users: &mut [u32],
+    bases: &mut [u32],
+) -> Judged
+    requires { ⌜ (length (now markers) ≡ 256) × (length (now users) ≡ 256) × (length (now bases) ≡ 257) ⌝ }
+    ensures { λ r. ⌜ Lending (now (table .entry)) (now (state .entry)) r (now (markers .exit)) (now (users .exit)) (now (bases .exit)) ⌝ }
+{
+    let r = layout::lay_out(table, markers, users, bases);
+    let Judged::Fine(_) = r else {
+        return r;
+    };
+    let count = tally::number(&bases[..], words::word(table, 0) as usize) as usize;
+    if state.len() != count {
+        return refusal::refused(18, count);
+    }
+    let above = game::first_above(state);
+    if above < state.len() {
+        return refusal::refused(18, above);
+    }
+    r
+}
+
+// An unfolded event fired at a lent unfolded marking, over which the new one is written.
+pub fn unfolded_fire(table: &[u8], marking: &mut [u8], j: UnfoldedEvent) -> Judged
+    ensures answer { λ r. ⌜ r ≡ unfoldedFireOf (now (table .entry)) (now (marking .entry)) (j .0) ⌝ }
+    ensures after { λ _. ⌜ now (marking .exit) ≡ unfoldedFiredOf (now (table .entry)) (now (marking .entry)) (j .0) ⌝ }
+{
+    let mut markers = [0u32; 256];
+    let mut users = [0u32; 256];
+    let mut bases = [0u32; 257];
+    let r = lend(table, &marking[..], &mut markers, &mut users, &mut bases);
+    let Judged::Fine(events) = r else {
+        return r;
+    };
+    let wanted = j.0 as u32;
+    let f = unfolding::owner(table, events, &markers, wanted);
+    let Found::At(e, at, rest, weight) = f else {
+        return refusal::refused(10, 0);
+    };
+    let count = marking.len();
+    let step = step_at(
+        table,
+        &markers,
+        &users,
+        &bases,
+        e,
+        at,
+        weight,
+        rest,
+        marking,
+    );
+    answered(step, count)
+}

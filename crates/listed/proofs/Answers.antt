@@ -1,0 +1,72 @@
+-- What the call on one list answers and writes.
+use mathlib.Core.Path.{_≡_, sym, _∙_, ap}
+use mathlib.Core.Bool.{Bool, true}
+use mathlib.Core.List.{List, _++_}
+use Prim.Native.Nat.{ℕ, _+_, _≤_, _<_}
+use lib.Dec.{ltb}
+use lib.ListN.{length, getD, drop}
+use lib.Seq.{sets, sets-eq}
+use native.Mathlib.Nat.{zero-add}
+use native.Mathlib.Omega.{arith}
+use borrow.Author.Tests.{le-ltb, le-leb, lt-leb}
+use Rattle.lists.specs.Lists.{sum}
+use Rattle.model.specs.Unfolding.{basic}
+use Rattle.model.specs.Numbering.{size, eventCount}
+use Rattle.refusal.specs.declared.Judged.{Judged}
+use Rattle.refusal.specs.declared.Judged.the-variants.{Fine, Refused}
+use Rattle.refusal.specs.declared.Refusal.{Refusal}
+use Rattle.refusal.specs.Answer.{refusedAt, fitting, written}
+use Rattle.refusal.proofs.Chain.{need-passes, need-refuses}
+use Rattle.table.specs.Decoded.{netOf}
+use Rattle.tally.specs.Having.{listOf}
+use Rattle.layout.specs.Unfolds.{unfoldingOf}
+use Rattle.unfolding.specs.Numbers.{Owner}
+use Rattle.unfolding.proofs.Numbered.{events-basic, origin-low}
+use Rattle.listed.specs.Calls.{listingOf, listedOf}
+use Rattle.segments.specs.Ranges.{ranged, Ranges}
+use Rattle.segments.proofs.Ranged.{ranged-length}
+
+pub stored-whole : (answer out : List ℕ) → length answer ≤ length out → sets out 0 answer ≡ answer ++ drop (length answer) out
+stored-whole answer out h = rw (sets-eq answer out 0 (omega arith), zero-add)
+
+module _ (s : List ℕ) (post : Bool) (j : ℕ) (out : List ℕ) where
+  -- a refusal leaves the output
+  pub kept : {x : Refusal} → listingOf s post j (length out) ≡ Refused x → out ≡ listedOf s post j out
+  unfolding listedOf
+  kept e = sym (ap (λ (a : Judged). written a (listOf (basic (netOf s)) post j) out) e)
+
+  module _ (u : (own : Judged) → unfoldingOf s own ≡ own) where
+    pub listing-past : eventCount (netOf s) ≤ j → refusedAt 10 0 ≡ listingOf s post j (length out)
+    unfolding listingOf
+    listing-past h =
+        sym (u _ ∙ need-refuses 10 0 (fitting (length (listOf (basic (netOf s)) post j)) (length out)) (le-ltb j (basic (netOf s) .events) (omega (arith, events-basic (netOf s)))))
+
+    module _ {e at rest weight : ℕ} (o : Owner s j e at rest weight) (starts sizes : List ℕ) (r : ℕ) (q : Ranges (netOf s) post (sum (size (netOf s)) e + rest) starts sizes r)
+        (k : ℕ) (w : k ≡ sum (λ i. getD sizes i 0) r) where
+      list-is : ranged starts sizes r ≡ listOf (basic (netOf s)) post j
+      list-is = q .numbers ∙ ap (λ (i : ℕ). listOf (basic (netOf s)) post i) (o .left)
+
+      z : k ≡ length (listOf (basic (netOf s)) post j)
+      z = w ∙ sym (ranged-length starts sizes r) ∙ ap (λ (l : List ℕ). length l) list-is
+
+      there : ltb j (basic (netOf s) .events) ≡ true
+      there = ap (λ (i : ℕ). ltb i (basic (netOf s) .events)) (sym (o .left)) ∙ origin-low (netOf s) e rest (o .event) (omega (arith, o .whole, o .below))
+
+      is-fitting : listingOf s post j (length out) ≡ fitting (length (listOf (basic (netOf s)) post j)) (length out)
+      unfolding listingOf
+      is-fitting = u _ ∙ need-passes 10 0 there
+
+      pub listing-short : length out < k → refusedAt 16 k ≡ listingOf s post j (length out)
+      unfolding fitting
+      listing-short h = sym (is-fitting ∙ rw (← z) (need-refuses 16 k (Fine k) (lt-leb k (length out) h)))
+
+      pub listing-fine : k ≤ length out → Fine k ≡ listingOf s post j (length out)
+      unfolding fitting
+      listing-fine h = sym (is-fitting ∙ rw (← z) (need-passes 16 k (le-leb k (length out) h)))
+
+      pub listed-fine : k ≤ length out → sets out 0 (ranged starts sizes r) ≡ listedOf s post j out
+      unfolding listedOf
+      listed-fine h =
+          ap (sets out 0) list-is
+          ∙ stored-whole (listOf (basic (netOf s)) post j) out (omega (arith, z))
+          ∙ sym (ap (λ (a : Judged). written a (listOf (basic (netOf s)) post j) out) (sym (listing-fine h)))

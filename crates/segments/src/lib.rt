@@ -1,0 +1,230 @@
+// The lists of one unfolded event as ranges of numbers: each condition of the table adds a segment of at most two ranges to a list. Read
+// on to see how the numbers of a segment are had.
+ghost use mathlib.Core.Path.{_≡_};
+ghost use Prim.Native.Nat.{_+_, _*_, _≤_, _<_};
+ghost use lib.ListN.{length};
+ghost use Rattle.lists.specs.Lists.{count, sum, spread};
+ghost use Rattle.words.specs.Words.{words};
+ghost use Rattle.records.specs.Records.{conditions};
+ghost use Rattle.model.specs.Numbering.{size};
+ghost use Rattle.table.specs.Decoded.{netOf};
+ghost use Rattle.segments.specs.Ranges.{ranged, within, aloneOf, joinedOf, choicesAt, chosenFrom, Choosing, eventAt, added, sizeIf, Known, Owned, Ranges};
+
+// The numbers that one condition of the table adds to a list: one range, then another.
+pub struct Segment {
+    pub first: u32,
+    pub size: u32,
+    pub next: u32,
+    pub more: u32,
+}
+
+// How many choices condition b leaves to a colour: its markers, or one where it is ordinary.
+fn choices<'a>(table: &'a [u8], markers: &'a [u32], b: usize) -> u32
+    ensures { λ r. ⌜ r ≡ choicesAt (now (table .entry)) (now (markers .entry)) b ⌝ }
+{
+    if layout::is_persistent(table, b) {
+        tally::number(markers, b)
+    } else {
+        1
+    }
+}
+
+// The places of the chosen markers from a colour's number: a walk down the preconditions, the first of which changes slowest.
+fn choose<'a>(
+    table: &'a [u8],
+    markers: &'a [u32],
+    pre: &'a [u8],
+    weight: u32,
+    rest: u32,
+    chosen: &mut [u32],
+)
+    requires { ⌜ Choosing (now table) (now markers) (words (now pre)) weight rest ⌝ }
+    requires { ⌜ length (now chosen) ≡ 256 ⌝ }
+    ensures { λ r. ⌜ now (chosen .exit) ≡ chosenFrom (now (table .entry)) (words (now (pre .entry))) rest (now (chosen .entry)) ⌝ }
+{
+    let mut above = weight;
+    let mut left = rest;
+    let mut i: usize = 0;
+    while 1 < pre.len() - i {
+        let b = words::word(pre, i) as usize;
+        above = above / choices(table, markers, b);
+        chosen[b] = left / above;
+        left = left % above;
+        i = i + 2;
+    }
+}
+
+// One range alone.
+fn alone(first: u32, size: u32) -> Segment
+    requires { ⌜ first + size ≤ 100000 ⌝ }
+    ensures { λ r. ⌜ r ≡ aloneOf first size ⌝ }
+{
+    Segment {
+        first,
+        size,
+        next: first + size,
+        more: 0,
+    }
+}
+
+// One number and a range, in order, the number once where the range has it.
+fn joined(taken: u32, first: u32, size: u32) -> Segment
+    requires { ⌜ first + size ≤ 100000 ⌝ }
+    ensures { λ r. ⌜ r ≡ joinedOf taken first size ⌝ }
+{
+    if taken < first {
+        return Segment {
+            first: taken,
+            size: 1,
+            next: first,
+            more: size,
+        };
+    }
+    if taken < first + size {
+        return alone(first, size);
+    }
+    Segment {
+        first,
+        size,
+        next: taken,
+        more: 1,
+    }
+}
+
+// The size of a range where a list has b, else none.
+fn size_if(counts: bool, list: &[u8], b: usize, size: u32) -> u32
+    ensures { λ r. ⌜ r ≡ sizeIf counts (words (now (list .entry))) b size ⌝ }
+{
+    if counts {
+        if words::has(list, b) {
+            return size;
+        }
+    }
+    0
+}
+
+// What condition b adds to a list of an unfolded event: of a persistent one the copy that it takes, and where the list is of
+// postconditions all copies that its event marks.
+fn segment_at<'a>(
+    table: &'a [u8],
+    users: &'a [u32],
+    bases: &'a [u32],
+    marks: &'a [u32],
+    uses: &'a [u32],
+    chosen: &'a [u32],
+    pre: &'a [u8],
+    list: &'a [u8],
+    post: bool,
+    e: usize,
+    rest: u32,
+    b: usize,
+) -> Segment
+    requires { ⌜ Known (now table) (now users) (now bases) (now marks) (now uses) (now chosen) (now pre) (now list) post e rest ⌝ }
+    requires { ⌜ b < netOf (now table) .conditions ⌝ }
+    ensures { λ r. ⌜ within r ≡ added (netOf (now (table .entry))) post (eventAt (netOf (now (table .entry))) e rest) b ⌝ }
+{
+    let base = tally::number(bases, b);
+    if layout::is_persistent(table, b) {
+        let width = tally::number(users, b);
+        let first = base + tally::number(marks, b) * width;
+        let size = size_if(post, list, b, width);
+        if words::has(pre, b) {
+            let taken = base + tally::number(chosen, b) * width + tally::number(uses, b);
+            return joined(taken, first, size);
+        }
+        return alone(first, size);
+    }
+    alone(base, size_if(true, list, b, 1))
+}
+
+// The segments of all conditions, as ranges two by two.
+fn lay<'a>(
+    table: &'a [u8],
+    users: &'a [u32],
+    bases: &'a [u32],
+    marks: &'a [u32],
+    uses: &'a [u32],
+    chosen: &'a [u32],
+    pre: &'a [u8],
+    list: &'a [u8],
+    post: bool,
+    e: usize,
+    rest: u32,
+    starts: &mut [u32],
+    sizes: &mut [u32],
+)
+    requires { ⌜ Known (now table) (now users) (now bases) (now marks) (now uses) (now chosen) (now pre) (now list) post e rest ⌝ }
+    requires { ⌜ conditions (now table) ≡ netOf (now table) .conditions ⌝ }
+    requires { ⌜ length (now starts) ≡ 512 ⌝ }
+    requires { ⌜ length (now sizes) ≡ 512 ⌝ }
+    ensures { λ r. ⌜ ranged (now (starts .exit)) (now (sizes .exit)) (2 * conditions (now (table .entry))) ≡ spread (added (netOf (now (table .entry))) post (eventAt (netOf (now (table .entry))) e rest)) (count 0 (conditions (now (table .entry)))) ⌝ }
+{
+    let n = words::word(table, 0) as usize;
+    let mut b: usize = 0;
+    while b < n {
+        let g = segment_at(
+            table,
+            users,
+            bases,
+            marks,
+            uses,
+            chosen,
+            pre,
+            list,
+            post,
+            e,
+            rest,
+            b,
+        );
+        starts[2 * b] = g.first;
+        sizes[2 * b] = g.size;
+        starts[2 * b + 1] = g.next;
+        sizes[2 * b + 1] = g.more;
+        b = b + 1;
+    }
+}
+
+// One list of an unfolded event of event e, as ranges; how many.
+pub fn ranges<'a>(
+    table: &'a [u8],
+    markers: &'a [u32],
+    users: &'a [u32],
+    bases: &'a [u32],
+    e: usize,
+    at: usize,
+    weight: u32,
+    rest: u32,
+    post: bool,
+    starts: &mut [u32],
+    sizes: &mut [u32],
+) -> usize
+    requires { ⌜ Owned (now table) (now markers) (now users) (now bases) e at weight rest ⌝ }
+    requires { ⌜ length (now starts) ≡ 512 ⌝ }
+    requires { ⌜ length (now sizes) ≡ 512 ⌝ }
+    ensures { λ r. ⌜ Ranges (netOf (now (table .entry))) post (sum (size (netOf (now (table .entry)))) e + rest) (now (starts .exit)) (now (sizes .exit)) r ⌝ }
+{
+    let mut marks = [0u32; 256];
+    let mut uses = [0u32; 256];
+    let mut chosen = [0u32; 256];
+    tally::tally(table, e, true, 1, &mut marks);
+    tally::tally(table, e, false, 0, &mut uses);
+    let pre = tally::list_at(table, at, false);
+    choose(table, markers, pre, weight, rest, &mut chosen);
+    let list = tally::list_at(table, at, post);
+    lay(
+        table,
+        users,
+        bases,
+        &marks,
+        &uses,
+        &chosen,
+        pre,
+        list,
+        post,
+        e,
+        rest,
+        starts,
+        sizes,
+    );
+    2 * words::word(table, 0) as usize
+}

@@ -1,0 +1,2 @@
+pub mod Ranging
+pub mod Tested

@@ -1,0 +1,194 @@
+// The ranges of an unfolded event walked on an unfolded marking: what stops the event, and bytes set at its conditions.
+use refusal::UnfoldedCondition;
+ghost use mathlib.Core.Path.{_≡_};
+ghost use mathlib.Core.List.{[]};
+ghost use Prim.Native.Nat.{_≤_};
+ghost use lib.ListN.{length};
+ghost use Rattle.lists.specs.Lists.{mem, failing, count};
+ghost use Rattle.model.specs.Lent.{marking};
+ghost use Rattle.segments.specs.Ranges.{ranged};
+ghost use Rattle.game.specs.Steps.{setAll};
+ghost use Rattle.walking.specs.Steps.{passesOf, failingOf, stepOf, stops, Kept, Below, BelowIn};
+
+// What stops a step: there is no such unfolded event, or the lowest unfolded condition that is lacking or in contact.
+pub enum Cause {
+    Unknown,
+    Lacks(UnfoldedCondition),
+    Meets(UnfoldedCondition),
+}
+
+// What one step answers: it goes, or what stops it.
+pub enum Step {
+    Goes,
+    Stops(Cause),
+}
+
+// The first unfolded condition of a list that fails its test.
+pub enum Failing {
+    Nothing,
+    At(UnfoldedCondition),
+}
+
+// Whether an unfolded condition holds.
+fn holds(state: &[u8], k: u32) -> bool
+    ensures { λ r. ⌜ r ≡ marking (now (state .entry)) k ⌝ }
+{
+    words::byte(state, k as usize) == 1
+}
+
+// Whether a number lies in a range.
+fn in_range(first: u32, size: u32, k: u32) -> bool
+    ensures { λ r. ⌜ r ≡ mem k (count first size) ⌝ }
+{
+    if k < first {
+        return false;
+    }
+    k - first < size
+}
+
+// Whether a number lies in one of so many ranges.
+fn in_ranges<'a>(starts: &'a [u32], sizes: &'a [u32], ranges: usize, k: u32) -> bool
+    requires { ⌜ Kept (now starts) (now sizes) ranges ⌝ }
+    ensures { λ r. ⌜ r ≡ mem k (ranged (now (starts .entry)) (now (sizes .entry)) ranges) ⌝ }
+{
+    let mut i: usize = 0;
+    while i < ranges {
+        if in_range(starts[i], sizes[i], k) {
+            return true;
+        }
+        i = i + 1;
+    }
+    false
+}
+
+// Whether an unfolded condition passes: it holds, or where contact is looked for it does not hold or is one of the taken.
+fn passes<'a>(
+    contact: bool,
+    state: &'a [u8],
+    starts: &'a [u32],
+    sizes: &'a [u32],
+    ranges: usize,
+    k: u32,
+) -> bool
+    requires { ⌜ Kept (now starts) (now sizes) ranges ⌝ }
+    ensures { λ r. ⌜ r ≡ passesOf contact (marking (now (state .entry))) (ranged (now (starts .entry)) (now (sizes .entry)) ranges) k ⌝ }
+{
+    let held = holds(state, k);
+    if contact {
+        if held {
+            return in_ranges(starts, sizes, ranges, k);
+        }
+        return true;
+    }
+    held
+}
+
+// The first number of a range that fails.
+fn first_in<'a>(
+    contact: bool,
+    state: &'a [u8],
+    starts: &'a [u32],
+    sizes: &'a [u32],
+    ranges: usize,
+    first: u32,
+    size: u32,
+) -> Failing
+    requires { ⌜ Kept (now starts) (now sizes) ranges ⌝ }
+    requires { ⌜ BelowIn first size 65535 ⌝ }
+    ensures { λ r. ⌜ r ≡ failingOf (failing (passesOf contact (marking (now (state .entry))) (ranged (now (starts .entry)) (now (sizes .entry)) ranges)) (count first size)) ⌝ }
+{
+    let mut d: u32 = 0;
+    while d < size {
+        let k = first + d;
+        if passes(contact, state, starts, sizes, ranges, k) {
+            d = d + 1;
+        } else {
+            return Failing::At(UnfoldedCondition(k as u16));
+        }
+    }
+    Failing::Nothing
+}
+
+// The first number of a list of ranges that fails, the taken ones being ranges too.
+fn first_failing<'a>(
+    contact: bool,
+    state: &'a [u8],
+    starts: &'a [u32],
+    sizes: &'a [u32],
+    ranges: usize,
+    firsts: &'a [u32],
+    widths: &'a [u32],
+    all: usize,
+) -> Failing
+    requires { ⌜ Kept (now starts) (now sizes) ranges ⌝ }
+    requires { ⌜ Below (now firsts) (now widths) all 65535 ⌝ }
+    ensures { λ r. ⌜ r ≡ failingOf (failing (passesOf contact (marking (now (state .entry))) (ranged (now (starts .entry)) (now (sizes .entry)) ranges)) (ranged (now (firsts .entry)) (now (widths .entry)) all)) ⌝ }
+{
+    let mut i: usize = 0;
+    while i < all {
+        let found = first_in(contact, state, starts, sizes, ranges, firsts[i], widths[i]);
+        let Failing::Nothing = found else {
+            return found;
+        };
+        i = i + 1;
+    }
+    Failing::Nothing
+}
+
+// What stops an event with these lists, taken and put, if anything does.
+pub fn test<'a>(
+    state: &'a [u8],
+    starts: &'a [u32],
+    sizes: &'a [u32],
+    ranges: usize,
+    firsts: &'a [u32],
+    widths: &'a [u32],
+    all: usize,
+) -> Step
+    requires { ⌜ Below (now starts) (now sizes) ranges 65535 ⌝ }
+    requires { ⌜ Below (now firsts) (now widths) all 65535 ⌝ }
+    ensures { λ r. ⌜ r ≡ stepOf (stops (marking (now (state .entry))) (ranged (now (starts .entry)) (now (sizes .entry)) ranges) (ranged (now (firsts .entry)) (now (widths .entry)) all)) ⌝ }
+{
+    let lacking = first_failing(false, state, starts, sizes, ranges, starts, sizes, ranges);
+    if let Failing::At(b) = lacking {
+        return Step::Stops(Cause::Lacks(b));
+    }
+    let contact = first_failing(true, state, starts, sizes, ranges, firsts, widths, all);
+    if let Failing::At(b) = contact {
+        return Step::Stops(Cause::Meets(b));
+    }
+    Step::Goes
+}
+
+// Each condition of a range set to a byte.
+fn set_range(first: u32, size: u32, value: u8, state: &mut [u8])
+    requires { ⌜ BelowIn first size (length (now state)) ⌝ }
+    requires { ⌜ length (now state) ≤ 65535 ⌝ }
+    ensures { λ _. ⌜ now (state .exit) ≡ setAll [] value (count first size) (now (state .entry)) ⌝ }
+{
+    let mut d: u32 = 0;
+    while d < size {
+        let k = (first + d) as usize;
+        state[k] = value;
+        d = d + 1;
+    }
+}
+
+// Each condition of so many ranges set to a byte.
+pub fn set_ranges<'a>(
+    starts: &'a [u32],
+    sizes: &'a [u32],
+    ranges: usize,
+    value: u8,
+    state: &mut [u8],
+)
+    requires { ⌜ Below (now starts) (now sizes) ranges (length (now state)) ⌝ }
+    requires { ⌜ length (now state) ≤ 65535 ⌝ }
+    ensures { λ _. ⌜ now (state .exit) ≡ setAll [] value (ranged (now (starts .entry)) (now (sizes .entry)) ranges) (now (state .entry)) ⌝ }
+{
+    let mut i: usize = 0;
+    while i < ranges {
+        set_range(starts[i], sizes[i], value, state);
+        i = i + 1;
+    }
+}
