@@ -18,7 +18,7 @@ owner-requires c κs =
 
 returns-2 : tie.Need-returns-2
 returns-2 c =
-    c .no-origin2 .ensures ∙ number-past (c .before .before .before .before .before .before .before .before .before .before .before .before .before .before .before .before .before .before .args .table .now) _ _ _ (c .before .before .before .before .before .before .before .before .before .before .before .before .before .lay-out .ensures .laid _ (c .before .before .before .before .before .before .before .before .r .given .1)) (c .before .before .before .before .before .before .before .before .before .before .before .before .before .lay-out .ensures .answer) (c .before .before .before .before .before .before .before .before .r .given .1) (c .before .before .before .before .before .word .result) (c .before .before .before .before .before .word .ensures) (c .before .before .before .before .before .before .before .before .before .before .before .before .before .before .before .before .before .before .args .i .0) (c .before .before .before .owner .result) (c .before .before .before .owner .ensures) (c .before .before .if1 .taken) (c .before .refused .result) (c .before .refused .ensures)
+    c .no-origin2 .ensures ∙ number-past (c .before .before .before .before .before .before .before .before .before .before .before .before .before .before .before .before .before .before .args .table .now) _ _ _ (c .before .before .before .before .before .before .before .before .before .before .before .before .before .lay-out .ensures .laid _ (c .before .before .before .before .before .before .before .before .r .given .1)) (c .before .before .before .before .before .before .before .before .before .before .before .before .before .lay-out .ensures .answer) (c .before .before .before .before .before .before .before .before .r .given .1) (c .before .before .before .before .before .word .result) (c .before .before .before .before .before .word .ensures) (c .before .before .before .before .before .before .before .before .before .before .before .before .before .before .before .before .before .before .args .i .0) (c .before .before .before .owner .result) (c .before .before .before .owner .ensures) (omega (arith, c .before .before .if1 .taken)) (c .before .refused .result) (c .before .refused .ensures)
 
 sub-rest : tie.Need-sub-rest
 sub-rest c =
