@@ -1,0 +1,143 @@
+-- What the calls answer, from the layout of the table and the replay of the run.
+use Prim.Native.Nat.{ℕ, zero, suc, _≤_, _<_}
+use native.Mathlib.Omega.{arith}
+use mathlib.Core.Path.{_≡_, refl, sym, ap, _∙_}
+use mathlib.Core.Option.{Option, none, some}
+use mathlib.Core.List.{List, [], _∷_, _++_}
+use lib.Dec.{T, leb, ltb→lt}
+use lib.ListN.{length, getD, drop, length-map}
+use borrow.Author.Tests.{lt-leb, le-leb}
+use Rattle.model.specs.Net.{Net, Marking, begin, fire}
+use Rattle.model.specs.Runs.{opening, runs, replay}
+use Rattle.model.specs.Unfolding.{origin, basic}
+use Rattle.model.specs.Numbering.{size}
+use Rattle.model.specs.Across.{Refusal, Answer, run, refusal, unless, stuck, tooLong, unfoldingRefused, readBack, projecting, project}
+use Rattle.model.proofs.Firing.{runs-first, runs-rest, can-event}
+use Rattle.model.proofs.Answers.{unless-run, projecting-run, run-projecting}
+use Rattle.refusal.specs.declared.Refusal as declared
+use Rattle.refusal.specs.declared.Judged.{Judged}
+use Rattle.refusal.specs.declared.Judged.the-variants.{Fine, Refused}
+use Rattle.refusal.specs.Answer.{refusedAt, need, fitting, written}
+use Rattle.refusal.proofs.Chain.{never-both, need-passes, need-refuses, then-fine}
+use Rattle.table.specs.Walk.{judgeOf}
+use Rattle.table.specs.Decoded.{netOf}
+use Rattle.table.proofs.Decoded.{net-judged}
+use Rattle.layout.specs.Laid.{Sums}
+use Rattle.game.specs.Calls.{passing}
+use Rattle.across.specs.Calls.{fitted, numbersOf, acrossOf}
+use Rattle.across.specs.Prepared.{preparedOf, Ready}
+use Rattle.across.proofs.Prefix.{across-passed, across-on, across-judged, fitted-across}
+use Rattle.project.specs.Calls.{projectOf, projectedOf}
+use Rattle.project.specs.Walked.{Replayed, Reading, Read}
+use Rattle.project.proofs.Located.{total}
+use Rattle.project.proofs.Walks.{few-judged}
+use Rattle.project.proofs.Back.{read-is}
+
+-- ---- answers of the model
+
+fitted-run : (a : Answer) (room v : ℕ) → fitted a room ≡ Fine v → (w : List ℕ) × (a ≡ run w)
+unfolding fitted
+fitted-run (run w) room v e = (w, refl)
+fitted-run (refusal x) room v e = never-both (sym e)
+
+-- a replay that is refused is the answer of the projection
+stuck-fitted : (o : Option Refusal) (a : Answer) (k room : ℕ) (p : Judged) {x : declared.Refusal} → p ≡ passing o (Fine k) → p ≡ Refused x → p ≡ fitted (unless o a) room
+unfolding fitted
+stuck-fitted none a k room p e t = never-both (sym e ∙ t)
+stuck-fitted (some y) a k room p e t = e
+
+length-back : (n : Net) (w : List ℕ) → length (readBack n w) ≡ length w
+unfolding readBack
+length-back n w = length-map w (λ j. origin n j .event)
+
+-- each step of a run is an event of its net
+runs-each : (n : Net) (u : Marking) (w : List ℕ) → T (runs n u w) → (k : ℕ) → k < length w → getD w k 0 < n .events
+unfolding runs
+runs-each n u [] t k h = absurd (omega arith)
+runs-each n u (e ∷ w) t zero h = ltb→lt e (n .events) (can-event n u e (runs-first n u e w t))
+runs-each n u (e ∷ w) t (suc k) h = runs-each n (fire n u e) w (runs-rest n u e w t) k (omega arith)
+
+-- ---- the call
+
+module _ (s w out : List ℕ) where
+  abbrev n : Net
+  n = netOf s
+
+  -- a refused answer leaves the output as it was
+  left-alone : (r : Judged) {x : declared.Refusal} → r ≡ projectOf s w (length out) → r ≡ Refused x → (r ≡ projectOf s w (length out)) × (out ≡ projectedOf s w out)
+  unfolding projectedOf
+  left-alone r e t = (e, rw (sym e ∙ t) refl)
+
+  call-is : projectOf s w (length out) ≡ acrossOf s w (fitted (projecting n w) (length out))
+  unfolding projectOf project
+  call-is = fitted-across s w (projecting n w) (length out)
+
+  -- a fine answer comes with the run that is read back
+  numbers-are : (v : ℕ) → projectOf s w (length out) ≡ Fine v → numbersOf (project n w) ≡ readBack n w
+  unfolding projectOf project
+  numbers-are v fine =
+      let y = then-fine (judgeOf s) (λ _. fitted (project n w) (length out)) v fine in
+      let g = fitted-run (project n w) (length out) v (y .2) in
+      let a = unless-run (tooLong w) (unless (unfoldingRefused n) (projecting n w)) (g .0) (g .1) in
+      let b = unless-run (unfoldingRefused n) (projecting n w) (g .0) (a .1) in
+      ap numbersOf (g .1) ∙ sym (projecting-run n w (g .0) (b .1) .1)
+
+  module _ (r : Judged) (e : r ≡ preparedOf s (length w) (Fine (n .events))) where
+    pub told-prepared : {x : declared.Refusal} → r ≡ Refused x → (r ≡ projectOf s w (length out)) × (out ≡ projectedOf s w out)
+    told-prepared t = left-alone r (across-passed s (length w) (n .events) e w refl (fitted (projecting n w) (length out)) t ∙ sym call-is) t
+
+    pub all-events : (m : ℕ) → r ≡ Fine m → m ≡ n .events
+    all-events m f = across-on s (length w) (n .events) e w refl (Fine m) f .1
+
+    pub judged-is : (m : ℕ) → r ≡ Fine m → judgeOf s ≡ Fine m
+    judged-is m f =
+        let j = across-judged s (length w) (n .events) e f in
+        j .1 ∙ ap Fine (sym (ap (λ (x : Net). x .events) (net-judged s (Fine (j .0)) (j .1))) ∙ sym (all-events m f))
+
+    module _ (m : ℕ) (f : r ≡ Fine m) (p : Judged) (l seen : List ℕ) (t : Replayed n w p l seen) where
+      goes : projectOf s w (length out) ≡ fitted (projecting n w) (length out)
+      goes = call-is ∙ across-on s (length w) (n .events) e w refl (fitted (projecting n w) (length out)) f .0
+
+      pub told-stopped : {x : declared.Refusal} → p ≡ Refused x → (p ≡ projectOf s w (length out)) × (out ≡ projectedOf s w out)
+      unfolding projecting
+      told-stopped z =
+          left-alone p (stuck-fitted (stuck (replay (basic n) 0 (opening (basic n)) w)) (run (readBack n w)) (length w) (length out) p (t .told) z ∙ sym goes) z
+
+      module _ (v : ℕ) (z : p ≡ Fine v) where
+        pub steps-are : v ≡ length w
+        steps-are = go (stuck (replay (basic n) 0 (opening (basic n)) w)) (sym z ∙ t .told)
+          where
+            go : (o : Option Refusal) → Fine v ≡ passing o (Fine (length w)) → v ≡ length w
+            go none q = cc
+            go (some y) q = never-both q
+
+        pub reading : (ms us bases before : List ℕ) → Ready s (length w) ms us bases before → v ≤ length out → Reading before m w out
+        reading ms us bases before d h = record {
+          few = few-judged s m (judged-is m f);
+          first = d .sizes .at 0 (omega arith);
+          size = d .sizes .size;
+          each = λ k l.
+              let last : getD before m 0 ≡ basic n .events = ap (λ (x : ℕ). getD before x 0) (all-events m f) ∙ total n before (d .sizes) 0 in
+              let low = runs-each (basic n) (begin (basic n)) w (t .plays v z) k l in
+              omega (arith, last, low);
+          room = omega (arith, steps-are);
+        }
+
+        fits : projectOf s w (length out) ≡ need (leb (length w) (length out)) 16 (length w) (Fine (length w))
+        unfolding fitted fitting
+        fits = goes ∙ rw (run-projecting n w (t .plays v z), length-back n w) refl
+
+        pub told-short : length out < v → (refusedAt 16 v ≡ projectOf s w (length out)) × (out ≡ projectedOf s w out)
+        told-short h =
+            left-alone (refusedAt 16 v)
+            (rw steps-are (sym (fits ∙ need-refuses 16 (length w) (Fine (length w)) (lt-leb (length w) (length out) (rw (← steps-are) h))))) refl
+
+        pub told-fine : v ≤ length out → (before new : List ℕ) → Sums (size n) (n .events) before → Read before m w (length w) out new → (Fine v ≡ projectOf s w (length out)) × (new ≡ projectedOf s w out)
+        unfolding projectedOf
+        told-fine h before new sizes d =
+            let q = read-is n before sizes m (all-events m f) w out new (omega (arith, steps-are)) d in
+            let fine : projectOf s w (length out) ≡ Fine (length w) = fits ∙ need-passes 16 (length w) (le-leb (length w) (length out) (rw (← steps-are) h)) in (
+              ap Fine steps-are ∙ sym fine,
+              q ∙ ap (λ (k : ℕ). readBack n w ++ drop k out) (sym (length-back n w))
+                  ∙ sym (ap (λ (a : List ℕ). written (projectOf s w (length out)) a out) (numbers-are (length w) fine) ∙ ap (λ (a : Judged). written a (readBack n w) out) fine),
+            )

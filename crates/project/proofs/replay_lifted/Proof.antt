@@ -1,0 +1,32 @@
+-- `project::replay_lifted` meets its contract.
+use mathlib.Core.Path.{refl}
+use Rattle.project.proofs.Walks.{walked-start, few-judged}
+use borrow.Author.Needs.{needs}
+use Rattle.project.proofs.replay_lifted.Statement.{statement}
+use Rattle.project.proofs.replay_lifted.Tie as tie
+
+fill-requires : tie.Need-fill-requires
+fill-requires c κs =
+    (c .before .before .before .before .before .before .before .before .pre .0 .judged, few-judged _ _ (c .before .before .before .before .before .before .before .before .pre .0 .judged))
+
+play-requires : tie.Need-play-requires
+play-requires c κs =
+    (record { judged = c .before .before .before .before .before .before .before .before .before .before .before .before .before .before .before .before .before .before .before .before .before .before .before .pre .0 .judged; indexed = c .before .before .before .before .before .before .before .before .before .before .before .before .before .before .fill .ensures; counted = c .before .before .before .before .before .before .before .before .before .before .before .before .before .before .before .before .before .before .before .before .before .before .before .pre .0 .counted; few = c .before .before .before .before .before .before .before .before .before .before .before .before .before .before .before .before .before .before .before .before .before .before .before .pre .0 .few; sizes = c .before .before .before .before .before .before .before .before .before .before .before .before .before .before .before .before .before .before .before .before .before .before .before .pre .0 .sizes; start = c .before .before .before .before .before .before .before .before .before .before .before .start .ensures }, walked-start _ _ (c .before .before .before .before .before .before .before .before .before .before .before .before .before .before .before .before .before .before .before .before .before .before .before .pre .0 .judged) _ _ _ _ _ (c .before .before .before .before .before .before .before .before .before .before .before .before .before .before .before .before .before .before .before .before .before .before .before .pre .0 .short) (c .before .before .before .before .before .before .before .before .start2 .ensures) (c .before .before .before .before .before .before .before .before .before .before .before .before .before .before .before .before .before .before .before .before .before .before .before .pre .1 .1) refl refl)
+
+pub replay-lifted-spec : {M : Type 1} → statement M
+replay-lifted-spec =
+    tie.close
+    (tie.spec
+    (λ c. search needs)
+    fill-requires
+    (λ c. search needs)
+    (λ c κs. search needs)
+    (λ c κs. search needs)
+    (λ c. search needs)
+    (λ c. search needs)
+    (λ c. search needs)
+    (λ c. search needs)
+    play-requires
+    (λ c. search needs)
+    (λ c. search needs)
+    (λ c. search needs))

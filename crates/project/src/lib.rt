@@ -1,0 +1,217 @@
+// The projection of an unfolded run: its steps replayed over the table's marking and the events that have occurred, then read back.
+use game::Cause;
+use game::Step;
+use refusal::Judged;
+ghost use mathlib.Core.Path.{_≡_};
+ghost use Prim.Native.Nat.{_<_};
+ghost use lib.ListN.{length, replicate};
+ghost use Rattle.model.specs.Net.{fire};
+ghost use Rattle.model.specs.Lent.{bytes, marking};
+ghost use Rattle.table.specs.Decoded.{netOf};
+ghost use Rattle.game.specs.Steps.{recordNet};
+ghost use Rattle.project.specs.Walked.{Equipped, Walked, Stepped, Fires, Replayed, Replayable, Reading, Read};
+ghost use Rattle.project.specs.Calls.{projectOf, projectedOf};
+
+// The event whose record stands at an offset, fired on the bytes of a marking.
+fn fire_at(table: &[u8], at: usize, state: &mut [u8])
+    requires { ⌜ Fires (now table) at (now state) ⌝ }
+    ensures { λ _. ⌜ now (state .exit) ≡ bytes (length (now (state .entry))) (fire (recordNet (now (table .entry)) at) (marking (now (state .entry))) 0) ⌝ }
+{
+    let flags = records::part_of(table, 4, words::word(table, 0) as usize);
+    game::set_all(flags, records::pre_at(table, at), 0, state);
+    game::set_all(&table[..0], records::post_at(table, at), 1, state);
+}
+
+// Step k of an unfolded run: its event is found, its colour laid out and tested, and the event fired on the table's marking.
+fn step_unfolded<'a>(
+    table: &'a [u8],
+    events: usize,
+    offsets: &'a [usize],
+    markers: &'a [u32],
+    users: &'a [u32],
+    before: &'a [u32],
+    begun: &'a [u8],
+    lifted: &'a [u16],
+    k: usize,
+    state: &mut [u8],
+    seen: &mut [u8],
+    places: &mut [u32],
+    kept: &mut [u32],
+) -> Step
+    requires { ⌜ Equipped (now table) events (now offsets) (now markers) (now users) (now before) (now begun) ⌝ }
+    requires { ⌜ Walked (netOf (now table)) (now lifted) k (now state) (now seen) (now places) (now kept) ⌝ }
+    requires { ⌜ k < length (now lifted) ⌝ }
+    ensures { λ r. ⌜ Stepped (netOf (now (table .entry))) (now (lifted .entry)) k r (now (state .exit)) (now (seen .exit)) (now (places .exit)) (now (kept .exit)) ⌝ }
+{
+    let j = lifted[k] as u32;
+    if before[events] <= j {
+        return Step::Stops(Cause::Unknown);
+    }
+    let e = across::event_of(before, events, j);
+    let at = offsets[e];
+    let first = before[e];
+    let pre = records::pre_at(table, at);
+    decided::choose(
+        table,
+        events,
+        markers,
+        pre,
+        before[e + 1] - first,
+        j - first,
+        places,
+        kept,
+    );
+    let answer = decided::decide(
+        table,
+        at,
+        e,
+        users,
+        &state[..],
+        begun,
+        &seen[..],
+        &places[..],
+        &kept[..],
+    );
+    let Step::Goes = answer else {
+        return answer;
+    };
+    fire_at(table, at, state);
+    seen[e] = 1;
+    answer
+}
+
+// All steps of an unfolded run, from the table's start in the bytes; fine: their number.
+fn play<'a>(
+    table: &'a [u8],
+    events: usize,
+    offsets: &'a [usize],
+    markers: &'a [u32],
+    users: &'a [u32],
+    before: &'a [u32],
+    begun: &'a [u8],
+    lifted: &'a [u16],
+    state: &mut [u8],
+    seen: &mut [u8],
+    places: &mut [u32],
+    kept: &mut [u32],
+) -> Judged
+    requires { ⌜ Equipped (now table) events (now offsets) (now markers) (now users) (now before) (now begun) ⌝ }
+    requires { ⌜ Walked (netOf (now table)) (now lifted) 0 (now state) (now seen) (now places) (now kept) ⌝ }
+    ensures { λ r. ⌜ Replayed (netOf (now (table .entry))) (now (lifted .entry)) r (now (state .exit)) (now (seen .exit)) ⌝ }
+{
+    let mut k: usize = 0;
+    while k < lifted.len() {
+        let step = step_unfolded(
+            table,
+            events,
+            offsets,
+            markers,
+            users,
+            before,
+            begun,
+            lifted,
+            k,
+            state,
+            seen,
+            places,
+            kept,
+        );
+        let Step::Goes = step else {
+            return game::answered(step, k, 0);
+        };
+        k = k + 1;
+    }
+    Judged::Fine(lifted.len())
+}
+
+// An unfolded run replayed from the start into bytes that are all 0: the marking, and the events that have occurred.
+pub fn replay_lifted<'a>(
+    table: &'a [u8],
+    events: usize,
+    markers: &'a [u32],
+    users: &'a [u32],
+    before: &'a [u32],
+    lifted: &'a [u16],
+    state: &mut [u8],
+    seen: &mut [u8],
+) -> Judged
+    requires { ⌜ Replayable (now table) events (now markers) (now users) (now before) (now lifted) ⌝ }
+    requires { ⌜ (now state ≡ replicate 256 0) × (now seen ≡ replicate 256 0) ⌝ }
+    ensures { λ r. ⌜ Replayed (netOf (now (table .entry))) (now (lifted .entry)) r (now (state .exit)) (now (seen .exit)) ⌝ }
+{
+    let mut offsets = [0usize; 256];
+    replay::fill(table, events, &mut offsets);
+    let mut begun = [0u8; 256];
+    replay::start(table, events, &mut begun);
+    replay::start(table, events, state);
+    let mut places = [0u32; 256];
+    let mut kept = [0u32; 256];
+    play(
+        table,
+        events,
+        &offsets,
+        markers,
+        users,
+        before,
+        &begun,
+        lifted,
+        state,
+        seen,
+        &mut places,
+        &mut kept,
+    )
+}
+
+// The event behind each number of a run, over the first numbers of an output.
+fn read_back<'a>(before: &'a [u32], events: usize, lifted: &'a [u16], out: &mut [u16])
+    requires { ⌜ Reading (now before) events (now lifted) (now out) ⌝ }
+    ensures { λ _. ⌜ Read (now (before .entry)) events (now (lifted .entry)) (length (now (lifted .entry))) (now (out .entry)) (now (out .exit)) ⌝ }
+{
+    let mut k: usize = 0;
+    while k < lifted.len() {
+        out[k] = across::event_of(before, events, lifted[k] as u32) as u16;
+        k = k + 1;
+    }
+}
+
+// The projection of an unfolded run: replayed from the unfolded start, each number then replaced by its event of the table.
+pub fn project<'a>(table: &'a [u8], lifted: &'a [u16], out: &mut [u16]) -> Judged
+    ensures answer { λ r. ⌜ r ≡ projectOf (now (table .entry)) (now (lifted .entry)) (length (now (out .entry))) ⌝ }
+    ensures after { λ _. ⌜ now (out .exit) ≡ projectedOf (now (table .entry)) (now (lifted .entry)) (now (out .entry)) ⌝ }
+{
+    let mut markers = [0u32; 256];
+    let mut users = [0u32; 256];
+    let mut bases = [0u32; 257];
+    let mut before = [0u32; 257];
+    let prepared = across::lay_out_run(
+        table,
+        lifted.len(),
+        &mut markers,
+        &mut users,
+        &mut bases,
+        &mut before,
+    );
+    let Judged::Fine(events) = prepared else {
+        return prepared;
+    };
+    let mut state = [0u8; 256];
+    let mut seen = [0u8; 256];
+    let played = replay_lifted(
+        table,
+        events,
+        &markers,
+        &users,
+        &before,
+        lifted,
+        &mut state,
+        &mut seen,
+    );
+    let Judged::Fine(steps) = played else {
+        return played;
+    };
+    if out.len() < steps {
+        return refusal::refused(16, steps);
+    }
+    read_back(&before, events, lifted, out);
+    Judged::Fine(steps)
+}
