@@ -1,0 +1,3 @@
+-- The definitions, in reading order: Calls is what the contracts of the calls say, Shown what stands below them.
+pub mod Calls
+pub mod Shown
