@@ -168,7 +168,7 @@ exchanged-twice zero (e ∷ f ∷ q) = refl
 exchanged-twice (suc k) [] = refl
 exchanged-twice (suc k) (x ∷ r) = ap {B = List ℕ} (λ z. x ∷ z) (exchanged-twice k r)
 
-length-exchanged : (k : ℕ) (r : List ℕ) → length (exchanged k r) ≡ length r
+pub length-exchanged : (k : ℕ) (r : List ℕ) → length (exchanged k r) ≡ length r
 length-exchanged zero [] = refl
 length-exchanged zero (e ∷ []) = refl
 length-exchanged zero (e ∷ f ∷ q) = refl

@@ -58,7 +58,7 @@ exchange-unchanged s r k x h = unchanged (exchangeOf s r k) x (exchanged k r) r 
 
 -- ---- demand 3
 
-swapping-fine : (a : Answer) (c : ℕ) → swapping a ≡ Fine c → (w : List ℕ) × (a ≡ run w)
+pub swapping-fine : (a : Answer) (c : ℕ) → swapping a ≡ Fine c → (w : List ℕ) × (a ≡ run w)
 swapping-fine (run w) c e = (w, refl)
 swapping-fine (refusal x) c e = never-both (sym e)
 

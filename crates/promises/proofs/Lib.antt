@@ -1,1 +1,5 @@
+pub mod Refused
 pub mod Game
+pub mod Across
+pub mod Kept
+pub mod One

@@ -1,0 +1,292 @@
+-- Demands 2 and 3 for the calls: what lift wrote, project takes back; what project wrote, replay accepts; 15 exactly when; and the
+-- exchange, lifts included.
+use mathlib.Core.Path.{_≡_, refl, sym, ap, _∙_, subst}
+use mathlib.Core.Logic.{_↔_}
+use mathlib.Core.Bool.{Bool, true, false}
+use mathlib.Core.Option.{Option, none, some}
+use mathlib.Core.List.{List, [], _∷_, _++_}
+use Prim.Native.Nat.{ℕ, zero, suc, _≤_, _<_}
+use native.Mathlib.Omega.{arith}
+use lib.Dec.{T, leb}
+use lib.ListN.{length, take, drop, length-map}
+use lib.Seq.{take-append-seam}
+use borrow.Author.Tests.{le-leb, leb-true}
+use Rattle.model.specs.Net.{Net, Marking, begin, unknown, lacks, meets}
+use Rattle.model.specs.Runs.{runs, end, opening, replay}
+use Rattle.model.specs.Unfolding.{origin, basic}
+use Rattle.model.specs.Lent.{bytes}
+use Rattle.model.specs.Exchange.{exchanged}
+use Rattle.model.specs.Across.{Refusal, Answer, run, refusal, stopped, other, unless, stuck, mostSteps, tooLong, unfoldingRefused, lifting, lift, readBack, projecting, project, exchanging, exchange}
+use Rattle.model.specs.Demands.{Lifts, Projects}
+use Rattle.model.proofs.Answers.{unless-run, not-stuck, stuck-none, exchanging-run, short-length, length-short}
+use Rattle.model.proofs.Exchange.{exchanged-twice, length-exchanged}
+use Rattle.model.proofs.Demands.{lift-lifts, lift-project, lift-exactly, lift-again, project-projects, exchange-exchanged, exchange-lifts, exchange-ends}
+use Rattle.refusal.specs.declared.Judged.{Judged}
+use Rattle.refusal.specs.declared.Judged.the-variants.{Fine}
+use Rattle.refusal.specs.Answer as refused
+use Rattle.refusal.specs.Answer.{refusedAt, need, fitting, written}
+use Rattle.refusal.proofs.Chain.{never-both, need-passes, need-fine, then-fine}
+use Rattle.table.specs.Walk.{judgeOf}
+use Rattle.table.specs.Decoded.{netOf}
+use Rattle.table.proofs.Sound.{accepted-sound}
+use Rattle.game.specs.Calls.{passing, leaves}
+use Rattle.replay.specs.Calls.{playedOf, replayOf}
+use Rattle.exchange.specs.Calls.{swapping, exchangeOf, exchangedOf}
+use Rattle.across.specs.Calls.{fitted, numbersOf, ended}
+use Rattle.lift.specs.Calls.{liftOf, liftedOf}
+use Rattle.ends.specs.Calls.{liftEndOf, liftEndedOf, unfoldedReplayOf, unfoldedReplayedOf}
+use Rattle.project.specs.Calls.{projectOf, projectedOf}
+use Rattle.promises.specs.Across.{liftOn, projectOn, TakenBack, ReadBack, TurnedAway, LiftedAlike}
+use Rattle.promises.proofs.Game.{swapping-fine}
+
+-- ---- room
+
+fitting-fine : (needed room c : ℕ) → fitting needed room ≡ Fine c → (c ≡ needed) × (needed ≤ room)
+unfolding fitting
+fitting-fine needed room c e =
+    let x = need-fine (leb needed room) 16 needed c (Fine needed) e in
+    (cc, leb-true needed room (x .0))
+
+fitting-room : (needed room : ℕ) → needed ≤ room → fitting needed room ≡ Fine needed
+unfolding fitting
+fitting-room needed room h = need-passes 16 needed (le-leb needed room h)
+
+-- a fine answer is a run that has room
+fitted-fine : (a : Answer) (room c : ℕ) → fitted a room ≡ Fine c → (w : List ℕ) × (a ≡ run w) × (c ≡ length w) × (length w ≤ room)
+unfolding fitted
+fitted-fine (run w) room c e = let x = fitting-fine (length w) room c e in (w, refl, x .0, x .1)
+fitted-fine (refusal x) room c e = never-both (sym e)
+
+ended-fine : (a : Answer) (count room c : ℕ) → ended a count room ≡ Fine c → (w : List ℕ) × (a ≡ run w) × (c ≡ count) × (count ≤ room)
+unfolding ended
+ended-fine (run w) count room c e = let x = fitting-fine count room c e in (w, refl, x .0, x .1)
+ended-fine (refusal x) count room c e = never-both (sym e)
+
+-- what was written stands at the front
+front : (answer : Judged) (c : ℕ) (w out : List ℕ) → answer ≡ Fine c → take (length w) (written answer w out) ≡ w
+front answer c w out e = rw e (take-append-seam w (drop (length w) out))
+
+-- ---- the calls on a judged table, by the model's answers
+
+module _ (s : List ℕ) (n : ℕ) (j : judgeOf s ≡ Fine n) where
+  lift-by : (r : List ℕ) (room : ℕ) → liftOf s r room ≡ fitted (lift (netOf s) r) room
+  unfolding liftOf
+  lift-by r room = rw j
+
+  lift-end-by : (r : List ℕ) (room : ℕ) → liftEndOf s r room ≡ ended (lift (netOf s) r) (basic (netOf s) .conditions) room
+  unfolding liftEndOf
+  lift-end-by r room = rw j
+
+  project-by : (w : List ℕ) (room : ℕ) → projectOf s w room ≡ fitted (project (netOf s) w) room
+  unfolding projectOf
+  project-by w room = rw j
+
+  unfolded-replay-by : (w : List ℕ) (room : ℕ) → unfoldedReplayOf s w room ≡ ended (project (netOf s) w) (basic (netOf s) .conditions) room
+  unfolding unfoldedReplayOf
+  unfolded-replay-by w room = rw j
+
+  -- a lift or a projection that is a run, given room
+  lift-given : (r w : List ℕ) (room : ℕ) → lift (netOf s) r ≡ run w → length w ≤ room → liftOf s r room ≡ Fine (length w)
+  unfolding fitted
+  lift-given r w room a h = lift-by r room ∙ ap (λ (x : Answer). fitted x room) a ∙ fitting-room (length w) room h
+
+  project-given : (w r : List ℕ) (room : ℕ) → project (netOf s) w ≡ run r → length r ≤ room → projectOf s w room ≡ Fine (length r)
+  unfolding fitted
+  project-given w r room a h = project-by w room ∙ ap (λ (x : Answer). fitted x room) a ∙ fitting-room (length r) room h
+
+  lift-end-given : (r w : List ℕ) (room : ℕ) → lift (netOf s) r ≡ run w → basic (netOf s) .conditions ≤ room → liftEndOf s r room ≡ Fine (basic (netOf s) .conditions)
+  unfolding ended
+  lift-end-given r w room a h = lift-end-by r room ∙ ap (λ (x : Answer). ended x (basic (netOf s) .conditions) room) a ∙ fitting-room (basic (netOf s) .conditions) room h
+
+  -- a run that is replayed, given room
+  replay-given : (r : List ℕ) (room : ℕ) → length r ≤ mostSteps → T (runs (netOf s) (begin (netOf s)) r) → netOf s .conditions ≤ room → replayOf s r room ≡ Fine (netOf s .conditions)
+  unfolding replayOf playedOf opening
+  replay-given r room short t h =
+      rw (j, length-short r short, stuck-none (netOf s) 0 (opening (netOf s)) r t) (need-passes 16 (netOf s .conditions) (le-leb (netOf s .conditions) room h))
+
+-- a lift has a number for each step
+lift-length : (n : Net) (r w : List ℕ) → Lifts n r w → length w ≡ length r
+unfolding readBack
+lift-length n r w l = sym (length-map w (λ j. origin n j .event)) ∙ ap length (l .back)
+
+project-length : (n : Net) (w r : List ℕ) → Projects n w r → length r ≡ length w
+unfolding readBack
+project-length n w r p = ap length (sym (p .back)) ∙ length-map w (λ j. origin n j .event)
+
+-- ---- demand 2
+
+-- What lift wrote, project takes back to the run.
+pub lift-taken-back : (s r out : List ℕ) (c : ℕ) → liftOf s r (length out) ≡ Fine c → (back end : List ℕ) → TakenBack s r out back end
+unfolding liftOf liftedOf projectedOf liftEndedOf unfoldedReplayedOf ended
+lift-taken-back s r out c h back end =
+    let (n, j, f) = then-fine (judgeOf s) (λ _. fitted (lift (netOf s) r) (length out)) c h in
+    let (w, a, e, room) = fitted-fine (lift (netOf s) r) (length out) c f in
+    let p = lift-project (netOf s) r w a in
+    let long = lift-length (netOf s) r w (lift-lifts (netOf s) r w a) in
+    let on : liftOn s r out ≡ w
+    = ap (λ (k : ℕ). take k (liftedOf s r out)) (sym long)
+    ∙ ap (λ (x : List ℕ). take (length w) (written (liftOf s r (length out)) x out)) (ap numbersOf a)
+    ∙ front (liftOf s r (length out)) c w out h in
+    let same : unfoldedReplayOf s w (length end) ≡ liftEndOf s r (length end)
+    = unfolded-replay-by s n j w (length end) ∙ ap (λ (x : Answer). ended x (basic (netOf s) .conditions) (length end)) p
+    ∙ sym (lift-end-by s n j r (length end) ∙ ap (λ (x : Answer). ended x (basic (netOf s) .conditions) (length end)) a) in
+    record {
+      answer = λ g. ap (λ (x : List ℕ). projectOf s x (length back)) on ∙ project-given s n j w r (length back) p g;
+      run = λ g.
+          ap (λ (x : List ℕ). projectOn s x back) on
+          ∙ ap (λ (k : ℕ). take k (projectedOf s w back)) long
+          ∙ ap (λ (x : List ℕ). take (length r) (written (projectOf s w (length back)) x back)) (ap numbersOf p)
+          ∙ front (projectOf s w (length back)) (length r) r back (project-given s n j w r (length back) p g);
+      end-answer = ap (λ (x : List ℕ). unfoldedReplayOf s x (length end)) on ∙ same;
+      same-end = ap (λ (x : List ℕ). unfoldedReplayedOf s x end) on ∙ told s r w end same a;
+    }
+  where
+    told : (s r w out : List ℕ) → unfoldedReplayOf s w (length out) ≡ liftEndOf s r (length out) → lift (netOf s) r ≡ run w → unfoldedReplayedOf s w out ≡ liftEndedOf s r out
+    told s r w out e a = rw (e, a)
+
+-- What project wrote, replay accepts.
+pub project-read-back : (s w out : List ℕ) (c : ℕ) → projectOf s w (length out) ≡ Fine c → (end : List ℕ) → ReadBack s w out end
+unfolding projectOf projectedOf project
+project-read-back s w out c h end =
+    let (n, j, f) = then-fine (judgeOf s) (λ _. fitted (project (netOf s) w) (length out)) c h in
+    let (r, a, e, room) = fitted-fine (project (netOf s) w) (length out) c f in
+    let p = project-projects (netOf s) (accepted-sound s n j) w r a in
+    let long = project-length (netOf s) w r p in
+    let short = short-length w (unless-run (tooLong w) (unless (unfoldingRefused (netOf s)) (projecting (netOf s) w)) r a .0) in
+    let on : projectOn s w out ≡ r
+    = ap (λ (k : ℕ). take k (projectedOf s w out)) (sym long)
+    ∙ ap (λ (x : List ℕ). take (length r) (written (projectOf s w (length out)) x out)) (ap numbersOf a)
+    ∙ front (projectOf s w (length out)) c r out h in
+    record { answer = λ g. ap (λ (x : List ℕ). replayOf s x (length end)) on ∙ replay-given s n j r (length end) (subst (λ (k : ℕ). k ≤ mostSteps) (sym long) short) (p .run) g }
+
+-- ---- 15 exactly when
+
+-- an answer that is refused with 15 is the model's
+fitted-fifteen : (a : Answer) (room i : ℕ) → fitted a room ≡ refusedAt 15 i → a ≡ refusal (other 15 i)
+unfolding fitted fitting need
+fitted-fifteen (run w) room i e = absurd (go (leb (length w) room) e)
+  where
+    go : (b : Bool) → need b 16 (length w) (Fine (length w)) ≡ refusedAt 15 i → ⊥
+    go true e = never-both e
+    go false e = let z : _≡_ {A = ℕ} 16 15 = ap refused.numberOf e in omega arith
+fitted-fifteen (refusal (stopped unknown k)) room i e = absurd (let z : _≡_ {A = ℕ} 10 15 = ap refused.numberOf e in omega arith)
+fitted-fifteen (refusal (stopped (lacks b) k)) room i e = absurd (let z : _≡_ {A = ℕ} 11 15 = ap refused.numberOf e in omega arith)
+fitted-fifteen (refusal (stopped (meets b) k)) room i e = absurd (let z : _≡_ {A = ℕ} 12 15 = ap refused.numberOf e in omega arith)
+fitted-fifteen (refusal (other x k)) room i e =
+    let z : x ≡ 15 = ap refused.numberOf e in
+    let y : k ≡ i = ap refused.placeOf e in
+    rw (z, y)
+
+passing-passes : (o : Option Refusal) (rest : Judged) (c : ℕ) → passing o rest ≡ Fine c → (o ≡ none) × (rest ≡ Fine c)
+passing-passes none rest c e = (refl, e)
+passing-passes (some x) rest c e = never-both (sym e)
+
+-- what replay accepts is a run that is not too long
+accepted : (n : Net) (r : List ℕ) (room c : ℕ) → playedOf n (opening n) r room ≡ Fine c → (tooLong r ≡ none) × T (runs n (begin n) r)
+unfolding playedOf opening
+accepted n r room c e =
+    let x = passing-passes (tooLong r) _ c e in
+    let y = passing-passes (stuck (replay n 0 (opening n) r)) _ c (x .1) in
+    (x .0, not-stuck n 0 (opening n) r (y .0))
+
+-- A run that replay accepts is turned away with 15 exactly where an event with a persistent postcondition comes again.
+pub turned-away : (s r end : List ℕ) (c : ℕ) → replayOf s r (length end) ≡ Fine c → unfoldingRefused (netOf s) ≡ none → (room : ℕ) → TurnedAway s r room
+unfolding replayOf playedOf fitted opening
+turned-away s r end c h unfolds room =
+    let (n, j, f) = then-fine (judgeOf s) _ c h in
+    let (short, t) = accepted (netOf s) r (length end) c f in
+    record {
+      repeating = λ i. (
+        λ e. lift-again (netOf s) r short unfolds i .0 (fitted-fifteen (lift (netOf s) r) room i (sym (lift-by s n j r room) ∙ e)) .1,
+        λ g. lift-by s n j r room ∙ ap (λ (x : Answer). fitted x room) (lift-again (netOf s) r short unfolds i .1 (t, g)),
+      );
+      lifting = λ g. (
+        λ e.
+            let (w, a, u, v) = fitted-fine (lift (netOf s) r) room (length r) (sym (lift-by s n j r room) ∙ e) in
+            lift-exactly (netOf s) r short unfolds .0 (w, a) .1,
+        λ q.
+            let (w, a) = lift-exactly (netOf s) r short unfolds .1 (t, q) in
+            let long = lift-length (netOf s) r w (lift-lifts (netOf s) r w a) in
+            lift-given s n j r w room a (omega (arith, g, long)) ∙ ap Fine long,
+      );
+    }
+
+-- ---- demand 3
+
+-- two steps exchanged before something else
+exchanged-before : (k : ℕ) (w rest : List ℕ) → suc k < length w → exchanged k (w ++ rest) ≡ exchanged k w ++ rest
+exchanged-before k [] rest h = absurd (omega arith)
+exchanged-before zero (x ∷ []) rest h = absurd (omega arith)
+exchanged-before zero (x ∷ y ∷ w) rest h = refl
+exchanged-before (suc k) (x ∷ w) rest h = ap {B = List ℕ} (λ z. x ∷ z) (exchanged-before k w rest (omega arith))
+
+-- what is written of a lift that is w
+lifted-as : (s r out w : List ℕ) (c : ℕ) → liftOf s r (length out) ≡ Fine c → lift (netOf s) r ≡ run w → liftedOf s r out ≡ w ++ drop (length w) out
+unfolding liftedOf
+lifted-as s r out w c e a = rw (e, a)
+
+ended-as : (s r out w : List ℕ) (c : ℕ) → liftEndOf s r (length out) ≡ Fine c → lift (netOf s) r ≡ run w
+    → liftEndedOf s r out ≡ written (Fine c) (bytes (basic (netOf s) .conditions) (end (basic (netOf s)) (begin (basic (netOf s))) w)) out
+unfolding liftEndedOf
+ended-as s r out w c e a = rw (e, a)
+
+-- a run r and the run q that the model's exchange makes of it
+module _ (s r : List ℕ) (k n : ℕ) (j : judgeOf s ≡ Fine n) (q : List ℕ) (a : exchange (netOf s) r k ≡ run q) where
+  forth : (w : List ℕ) → lift (netOf s) r ≡ run w → lift (netOf s) q ≡ run (exchanged k w)
+  forth w = exchange-lifts (netOf s) r k q a w .0
+
+  back : (v : List ℕ) → lift (netOf s) q ≡ run v → lift (netOf s) r ≡ run (exchanged k v)
+  back v e = exchange-lifts (netOf s) r k q a (exchanged k v) .1 (e ∙ ap run (sym (exchanged-twice k v)))
+
+  both-lift : (room c : ℕ) → (liftOf s r room ≡ Fine c) ↔ (liftOf s q room ≡ Fine c)
+  both-lift room c = (
+    λ e.
+        let (w, b, u, v) = fitted-fine (lift (netOf s) r) room c (sym (lift-by s n j r room) ∙ e) in
+        let same = length-exchanged k w in
+        lift-given s n j q (exchanged k w) room (forth w b) (omega (arith, same, v)) ∙ ap Fine (same ∙ sym u),
+    λ e.
+        let (w, b, u, v) = fitted-fine (lift (netOf s) q) room c (sym (lift-by s n j q room) ∙ e) in
+        let same = length-exchanged k w in
+        lift-given s n j r (exchanged k w) room (back w b) (omega (arith, same, v)) ∙ ap Fine (same ∙ sym u),
+  )
+
+  both-end : (room c : ℕ) → (liftEndOf s r room ≡ Fine c) ↔ (liftEndOf s q room ≡ Fine c)
+  both-end room c = (
+    λ e.
+        let (w, b, u, v) = ended-fine (lift (netOf s) r) (basic (netOf s) .conditions) room c (sym (lift-end-by s n j r room) ∙ e) in
+        lift-end-given s n j q (exchanged k w) room (forth w b) v ∙ ap Fine (sym u),
+    λ e.
+        let (w, b, u, v) = ended-fine (lift (netOf s) q) (basic (netOf s) .conditions) room c (sym (lift-end-by s n j q room) ∙ e) in
+        lift-end-given s n j r (exchanged k w) room (back w b) v ∙ ap Fine (sym u),
+  )
+
+  swapped : suc k < length r → (out : List ℕ) (c : ℕ) → liftOf s r (length out) ≡ Fine c → liftedOf s q out ≡ exchanged k (liftedOf s r out)
+  swapped next out c e =
+      let (w, b, u, v) = fitted-fine (lift (netOf s) r) (length out) c (sym (lift-by s n j r (length out)) ∙ e) in
+      let long = lift-length (netOf s) r w (lift-lifts (netOf s) r w b) in
+      lifted-as s q out (exchanged k w) c (both-lift (length out) c .0 e) (forth w b)
+      ∙ ap (λ (x : ℕ). exchanged k w ++ drop x out) (length-exchanged k w)
+      ∙ sym (exchanged-before k w (drop (length w) out) (omega (arith, next, long)))
+      ∙ ap (exchanged k) (sym (lifted-as s r out w c e b))
+
+  same-end : (out : List ℕ) (c : ℕ) → liftEndOf s r (length out) ≡ Fine c → liftEndedOf s q out ≡ liftEndedOf s r out
+  same-end out c e =
+      let (w, b, u, v) = ended-fine (lift (netOf s) r) (basic (netOf s) .conditions) (length out) c (sym (lift-end-by s n j r (length out)) ∙ e) in
+      ended-as s q out (exchanged k w) c (both-end (length out) c .0 e) (forth w b)
+      ∙ ap (λ (m : Marking). written (Fine c) (bytes (basic (netOf s) .conditions) m) out) (exchange-ends (netOf s) r k q a w b .1)
+      ∙ sym (ended-as s r out w c e b)
+
+-- Of a run and the run that exchange leaves, one lifts exactly if the other does, and the lifts differ by the exchange alone.
+pub exchange-lifted-alike : (s r : List ℕ) (k c : ℕ) → exchangeOf s r k ≡ Fine c → (out end : List ℕ) → LiftedAlike s r k out end
+unfolding exchangeOf exchangedOf exchange
+exchange-lifted-alike s r k c h out end =
+    let (n, j, f) = then-fine (judgeOf s) (λ n. swapping (exchange (netOf s) r k)) c h in
+    let (q, a) = swapping-fine (exchange (netOf s) r k) c f in
+    let next = exchanging-run (netOf s) r k q (unless-run (tooLong r) (exchanging (netOf s) r k) q a .1) .1 in
+    let left : exchangedOf s r k ≡ q = ap (λ (x : Judged). leaves x (exchanged k r) r) h ∙ sym (exchange-exchanged (netOf s) r k q a .0) in
+    record {
+      both = λ x. subst (λ (y : List ℕ). (liftOf s r (length out) ≡ Fine x) ↔ (liftOf s y (length out) ≡ Fine x)) (sym left) (both-lift s r k n j q a (length out) x);
+      swapped = λ x e. ap (λ (y : List ℕ). liftedOf s y out) left ∙ swapped s r k n j q a next out x e;
+      both-end = λ x. subst (λ (y : List ℕ). (liftEndOf s r (length end) ≡ Fine x) ↔ (liftEndOf s y (length end) ≡ Fine x)) (sym left) (both-end s r k n j q a (length end) x);
+      same-end = λ x e. ap (λ (y : List ℕ). liftEndedOf s y end) left ∙ same-end s r k n j q a end x e;
+    }

@@ -1,0 +1,234 @@
+-- Demand 1 for every call: it is worked, or refused with a number of its list, and then its lent output, which stands here as the
+-- memory at exit, is as it was at entry.
+use mathlib.Core.Path.{_≡_, sym, _∙_}
+use mathlib.Core.Bool.{Bool, true, false}
+use mathlib.Core.List.{List, _∷_}
+use Prim.Native.Nat.{ℕ}
+use lib.Dec.{T, eqb}
+use lib.ListN.{length}
+use denote.Ref.{now}
+use Rattle.lists.specs.Lists.{mem}
+use Rattle.lists.proofs.Bools.{or-right}
+use Rattle.model.specs.Unfolding.{UnfoldedCondition, ordinary, copy, UnfoldedEvent, origin}
+use Rattle.refusal.specs.declared.Refusal.{Refusal}
+use Rattle.refusal.specs.declared.Judged.{Judged}
+use Rattle.refusal.specs.declared.Judged.the-variants.{Fine, Refused}
+use Rattle.refusal.specs.Answer.{written}
+use Rattle.table.specs.Decoded.{netOf}
+use Rattle.table.specs.Asked.{askedOf, askedConditionOf, persistenceIf, persistenceOf, persistenceNumber}
+use Rattle.game.specs.Calls.{leaves, fireOf, firedOf}
+use Rattle.replay.specs.Calls.{replayOf, endOf, replayFromOf, endFromOf}
+use Rattle.exchange.specs.Calls.{exchangeOf, exchangedOf}
+use Rattle.runs.specs.Runs.{runKind, liftedKind, readAnswer, writeAnswer, runInto, recordInto}
+use Rattle.unfolding.specs.Answers as unfolded
+use Rattle.unfolding.specs.Answers.{originJudged, originIf, originOf}
+use Rattle.conditions.specs.Answers.{numbered}
+use Rattle.conditions.specs.Origins.{conditionAt, conditionJudged, toldIf, conditionOriginOf, originNumber}
+use Rattle.listed.specs.Calls.{listingOf, listedOf}
+use Rattle.starting.specs.Calls.{unfoldedStartOf, unfoldedStartedOf}
+use Rattle.firing.specs.Calls.{unfoldedFireOf, unfoldedFiredOf}
+use Rattle.lift.specs.Calls.{liftOf, liftedOf}
+use Rattle.ends.specs.Calls.{liftEndOf, liftEndedOf, unfoldedReplayOf, unfoldedReplayedOf}
+use Rattle.project.specs.Calls.{projectOf, projectedOf}
+use Rattle.promises.specs.Refused.{ofNumbering, ofListing, ofStart, ofUnfoldedFiring, ofLift, ofProject, ofTable, ofAsking, ofFiring, ofReplay, ofReplayFrom, ofExchange, ofUnfolding, ofReading, ofWriting, listed, Refusing}
+use Rattle.promises.proofs.Refused.{listed-need, judge-listed, judged-listed, firing-listed, replay-listed, replay-from-listed, exchange-listed, unfolding-of-listed, listing-listed, unfolded-start-listed, unfolded-fire-listed, lift-listed, lift-end-listed, project-listed, unfolded-replay-listed, read-listed, write-listed}
+use Rattle.table.proofs.judge.Reads as judge
+use Rattle.table.proofs.condition_count.Reads as condition-count
+use Rattle.table.proofs.event_count.Reads as event-count
+use Rattle.table.proofs.asked.Reads as asked
+use Rattle.table.proofs.asked_condition.Reads as asked-condition
+use Rattle.game.proofs.concession.Reads as concession
+use Rattle.game.proofs.fire.Reads as fire
+use Rattle.replay.proofs.replay.Reads as replay
+use Rattle.replay.proofs.replay_from.Reads as replay-from
+use Rattle.exchange.proofs.exchange.Reads as exchange
+use Rattle.runs.proofs.read_run.Reads as read-run
+use Rattle.runs.proofs.read_lifted.Reads as read-lifted
+use Rattle.runs.proofs.write_run.Reads as write-run
+use Rattle.runs.proofs.write_lifted.Reads as write-lifted
+use Rattle.unfolding.proofs.condition_count.Reads as unfolded-condition-count
+use Rattle.unfolding.proofs.event_count.Reads as unfolded-event-count
+use Rattle.table.proofs.persistent.Reads as persistent
+use Rattle.unfolding.proofs.event_origin.Reads as event-origin
+use Rattle.unfolding.proofs.event_number.Reads as event-number
+use Rattle.conditions.proofs.ordinary_number.Reads as ordinary-number
+use Rattle.conditions.proofs.copy_number.Reads as copy-number
+use Rattle.conditions.proofs.condition_origin.Reads as condition-origin
+use Rattle.listed.proofs.unfolded_pre.Reads as unfolded-pre
+use Rattle.listed.proofs.unfolded_post.Reads as unfolded-post
+use Rattle.starting.proofs.unfolded_start.Reads as unfolded-start
+use Rattle.firing.proofs.unfolded_fire.Reads as unfolded-fire
+use Rattle.lift.proofs.lift.Reads as lift
+use Rattle.ends.proofs.lift_end.Reads as lift-end
+use Rattle.project.proofs.project.Reads as project
+use Rattle.ends.proofs.unfolded_replay.Reads as unfolded-replay
+
+-- a call that meets its contract, where what it leaves is told by its answer
+leaves-refused : (numbers : List ℕ) (r answer : Judged) (new old out : List ℕ) → r ≡ answer → T (listed numbers answer) → out ≡ leaves answer new old → Refusing numbers r old out
+leaves-refused numbers r answer new old out e t f = record { number = rw e t; kept = λ x g. f ∙ kept (sym e ∙ g) }
+  where
+    kept : {x : Refusal} → answer ≡ Refused x → leaves answer new old ≡ old
+    kept g = rw g
+
+written-refused : (numbers : List ℕ) (r answer : Judged) (new old out : List ℕ) → r ≡ answer → T (listed numbers answer) → out ≡ written answer new old → Refusing numbers r old out
+written-refused numbers r answer new old out e t f = record { number = rw e t; kept = λ x g. f ∙ kept (sym e ∙ g) }
+  where
+    kept : {x : Refusal} → answer ≡ Refused x → written answer new old ≡ old
+    kept g = rw g
+
+-- answers that are no `Judged`: their number is 0 where nothing is refused
+persistence-listed : (a : Judged) (b : Bool) → T (listed ofAsking a) → T (mem (persistenceNumber (persistenceIf a b)) (0 ∷ ofAsking))
+persistence-listed (Fine at) true h = tt
+persistence-listed (Fine at) false h = tt
+persistence-listed (Refused x) b h = or-right (eqb (x .number) 0) (mem (x .number) ofAsking) h
+
+origin-listed : (a : Judged) (y : UnfoldedEvent) → T (listed ofNumbering a) → T (listed ofNumbering (originIf a y .answer))
+origin-listed (Fine k) y h = tt
+origin-listed (Refused x) y h = h
+
+told-listed : (a : Judged) (p : UnfoldedCondition) → T (listed ofNumbering a) → T (mem (originNumber (toldIf a p)) (0 ∷ ofNumbering))
+told-listed (Fine k) (ordinary b) h = tt
+told-listed (Fine k) (copy b m u) h = tt
+told-listed (Refused x) p h = or-right (eqb (x .number) 0) (mem (x .number) ofNumbering) h
+
+-- ---- a table asked
+
+pub judge-refused : (κs : _) (a : _) (r : _) (x : _) → judge.Learnt κs a r x → T (listed ofTable r)
+judge-refused κs a r x h = rw h (judge-listed (now (a .0)))
+
+pub condition-count-refused : (κs : _) (a : _) (r : _) (x : _) → condition-count.Learnt κs a r x → T (listed ofTable r)
+condition-count-refused κs a r x h = rw h (judged-listed ofTable (now (a .0)) _ tt (λ n. tt))
+
+pub event-count-refused : (κs : _) (a : _) (r : _) (x : _) → event-count.Learnt κs a r x → T (listed ofTable r)
+event-count-refused κs a r x h = rw h (judged-listed ofTable (now (a .0)) _ tt (λ n. tt))
+
+pub asked-refused : (κs : _) (a : _) (r : _) (x : _) → asked.Learnt κs a r x → T (listed ofAsking r)
+unfolding askedOf
+asked-refused κs a r x h = rw h (judged-listed ofAsking (now (a .0)) _ tt (λ n. listed-need ofAsking _ 10 0 _ tt tt))
+
+pub asked-condition-refused : (κs : _) (a : _) (r : _) (x : _) → asked-condition.Learnt κs a r x → T (listed ofAsking r)
+unfolding askedConditionOf
+asked-condition-refused κs a r x h = rw h (judged-listed ofAsking (now (a .0)) _ tt (λ n. listed-need ofAsking _ 10 0 _ tt tt))
+
+-- ---- one step of the game
+
+pub concession-refused : (κs : _) (a : _) (r : _) (x : _) → concession.Learnt κs a r x → T (listed ofFiring r)
+concession-refused κs a r x h = rw h (firing-listed (now (a .0)) (now (a .1 .0)) (a .1 .1 .0 .0) 0)
+
+pub fire-refused : (κs : _) (a : _) (r : _) (x : _) → fire.Learnt κs a r x → Refusing ofFiring r (now (a .1 .0)) (now (x .1 .0))
+unfolding firedOf
+fire-refused κs a r x h =
+    leaves-refused ofFiring r (fireOf (now (a .0)) (now (a .1 .0)) (a .1 .1 .0 .0)) _ (now (a .1 .0)) (now (x .1 .0)) (h .0) (firing-listed (now (a .0)) (now (a .1 .0)) (a .1 .1 .0 .0) (netOf (now (a .0)) .conditions)) (h .1)
+
+-- ---- runs
+
+pub replay-refused : (κs : _) (a : _) (r : _) (x : _) → replay.Learnt κs a r x → Refusing ofReplay r (now (a .1 .1 .0)) (now (x .1 .1 .0))
+unfolding endOf
+replay-refused κs a r x h =
+    leaves-refused ofReplay r (replayOf (now (a .0)) (now (a .1 .0)) (length (now (a .1 .1 .0)))) _ (now (a .1 .1 .0)) (now (x .1 .1 .0)) (h .0) (replay-listed (now (a .0)) (now (a .1 .0)) (length (now (a .1 .1 .0)))) (h .1)
+
+pub replay-from-refused : (κs : _) (a : _) (r : _) (x : _) → replay-from.Learnt κs a r x → Refusing ofReplayFrom r (now (a .1 .1 .1 .0)) (now (x .1 .1 .1 .0))
+unfolding endFromOf
+replay-from-refused κs a r x h =
+    leaves-refused ofReplayFrom r (replayFromOf (now (a .0)) (now (a .1 .0)) (now (a .1 .1 .0)) (length (now (a .1 .1 .1 .0)))) _ (now (a .1 .1 .1 .0)) (now (x .1 .1 .1 .0)) (h .0) (replay-from-listed (now (a .0)) (now (a .1 .0)) (now (a .1 .1 .0)) (length (now (a .1 .1 .1 .0)))) (h .1)
+
+pub exchange-refused : (κs : _) (a : _) (r : _) (x : _) → exchange.Learnt κs a r x → Refusing ofExchange r (now (a .1 .0)) (now (x .1 .0))
+unfolding exchangedOf
+exchange-refused κs a r x h =
+    leaves-refused ofExchange r (exchangeOf (now (a .0)) (now (a .1 .0)) (a .1 .1 .0)) _ (now (a .1 .0)) (now (x .1 .0)) (h .0) (exchange-listed (now (a .0)) (now (a .1 .0)) (a .1 .1 .0)) (h .1)
+
+-- ---- records of runs
+
+pub read-run-refused : (κs : _) (a : _) (r : _) (x : _) → read-run.Learnt κs a r x → Refusing ofReading r (now (a .1 .0)) (now (x .1 .0))
+unfolding runInto
+read-run-refused κs a r x h =
+    written-refused ofReading r (readAnswer runKind (now (a .0)) (length (now (a .1 .0)))) _ (now (a .1 .0)) (now (x .1 .0)) (h .0) (read-listed runKind (now (a .0)) (length (now (a .1 .0)))) (h .1)
+
+pub read-lifted-refused : (κs : _) (a : _) (r : _) (x : _) → read-lifted.Learnt κs a r x → Refusing ofReading r (now (a .1 .0)) (now (x .1 .0))
+unfolding runInto
+read-lifted-refused κs a r x h =
+    written-refused ofReading r (readAnswer liftedKind (now (a .0)) (length (now (a .1 .0)))) _ (now (a .1 .0)) (now (x .1 .0)) (h .0) (read-listed liftedKind (now (a .0)) (length (now (a .1 .0)))) (h .1)
+
+pub write-run-refused : (κs : _) (a : _) (r : _) (x : _) → write-run.Learnt κs a r x → Refusing ofWriting r (now (a .1 .0)) (now (x .1 .0))
+unfolding recordInto
+write-run-refused κs a r x h =
+    written-refused ofWriting r (writeAnswer (now (a .0)) (length (now (a .1 .0)))) _ (now (a .1 .0)) (now (x .1 .0)) (h .0) (write-listed (now (a .0)) (length (now (a .1 .0)))) (h .1)
+
+pub write-lifted-refused : (κs : _) (a : _) (r : _) (x : _) → write-lifted.Learnt κs a r x → Refusing ofWriting r (now (a .1 .0)) (now (x .1 .0))
+unfolding recordInto
+write-lifted-refused κs a r x h =
+    written-refused ofWriting r (writeAnswer (now (a .0)) (length (now (a .1 .0)))) _ (now (a .1 .0)) (now (x .1 .0)) (h .0) (write-listed (now (a .0)) (length (now (a .1 .0)))) (h .1)
+
+-- ---- the unfolding
+
+pub unfolded-condition-count-refused : (κs : _) (a : _) (r : _) (x : _) → unfolded-condition-count.Learnt κs a r x → T (listed ofUnfolding r)
+unfolded-condition-count-refused κs a r x h = rw h (unfolding-of-listed ofUnfolding (now (a .0)) _ tt tt)
+
+pub unfolded-event-count-refused : (κs : _) (a : _) (r : _) (x : _) → unfolded-event-count.Learnt κs a r x → T (listed ofUnfolding r)
+unfolded-event-count-refused κs a r x h = rw h (unfolding-of-listed ofUnfolding (now (a .0)) _ tt tt)
+
+pub persistent-refused : (κs : _) (a : _) (r : _) (x : _) → persistent.Learnt κs a r x → T (mem (persistenceNumber r) (0 ∷ ofAsking))
+unfolding persistenceOf askedConditionOf
+persistent-refused κs a r x h = rw h (persistence-listed (askedConditionOf (now (a .0)) (a .1 .0 .0)) (netOf (now (a .0)) .persistent (a .1 .0 .0)) (judged-listed ofAsking (now (a .0)) _ tt (λ n. listed-need ofAsking _ 10 0 _ tt tt)))
+
+pub event-origin-refused : (κs : _) (a : _) (r : _) (x : _) → event-origin.Learnt κs a r x → T (listed ofNumbering (r .answer))
+unfolding originOf originJudged
+event-origin-refused κs a r x h = rw h (origin-listed (originJudged (now (a .0)) (a .1 .0 .0)) (origin (netOf (now (a .0))) (a .1 .0 .0)) (unfolding-of-listed ofNumbering (now (a .0)) _ tt (listed-need ofNumbering _ 10 0 _ tt tt)))
+
+pub event-number-refused : (κs : _) (a : _) (r : _) (x : _) → event-number.Learnt κs a r x → T (listed ofNumbering r)
+unfolding unfolded.numberOf
+event-number-refused κs a r x h = rw h (unfolding-of-listed ofNumbering (now (a .0)) _ tt (listed-need ofNumbering _ 10 0 _ tt tt))
+
+pub ordinary-number-refused : (κs : _) (a : _) (r : _) (x : _) → ordinary-number.Learnt κs a r x → T (listed ofNumbering r)
+unfolding numbered
+ordinary-number-refused κs a r x h = rw h (unfolding-of-listed ofNumbering (now (a .0)) _ tt (listed-need ofNumbering _ 10 0 _ tt tt))
+
+pub copy-number-refused : (κs : _) (a : _) (r : _) (x : _) → copy-number.Learnt κs a r x → T (listed ofNumbering r)
+unfolding numbered
+copy-number-refused κs a r x h = rw h (unfolding-of-listed ofNumbering (now (a .0)) _ tt (listed-need ofNumbering _ 10 0 _ tt tt))
+
+pub condition-origin-refused : (κs : _) (a : _) (r : _) (x : _) → condition-origin.Learnt κs a r x → T (mem (originNumber r) (0 ∷ ofNumbering))
+unfolding conditionOriginOf conditionJudged
+condition-origin-refused κs a r x h = rw h (told-listed (conditionJudged (now (a .0)) (a .1 .0 .0)) (conditionAt (netOf (now (a .0))) (a .1 .0 .0)) (unfolding-of-listed ofNumbering (now (a .0)) _ tt (listed-need ofNumbering _ 10 0 _ tt tt)))
+
+pub unfolded-pre-refused : (κs : _) (a : _) (r : _) (x : _) → unfolded-pre.Learnt κs a r x → Refusing ofListing r (now (a .1 .1 .0)) (now (x .1 .1 .0))
+unfolding listedOf
+unfolded-pre-refused κs a r x h =
+    written-refused ofListing r (listingOf (now (a .0)) false (a .1 .0 .0) (length (now (a .1 .1 .0)))) _ (now (a .1 .1 .0)) (now (x .1 .1 .0)) (h .0) (listing-listed (now (a .0)) false (a .1 .0 .0) (length (now (a .1 .1 .0)))) (h .1)
+
+pub unfolded-post-refused : (κs : _) (a : _) (r : _) (x : _) → unfolded-post.Learnt κs a r x → Refusing ofListing r (now (a .1 .1 .0)) (now (x .1 .1 .0))
+unfolding listedOf
+unfolded-post-refused κs a r x h =
+    written-refused ofListing r (listingOf (now (a .0)) true (a .1 .0 .0) (length (now (a .1 .1 .0)))) _ (now (a .1 .1 .0)) (now (x .1 .1 .0)) (h .0) (listing-listed (now (a .0)) true (a .1 .0 .0) (length (now (a .1 .1 .0)))) (h .1)
+
+pub unfolded-start-refused : (κs : _) (a : _) (r : _) (x : _) → unfolded-start.Learnt κs a r x → Refusing ofStart r (now (a .1 .0)) (now (x .1 .0))
+unfolding unfoldedStartedOf
+unfolded-start-refused κs a r x h =
+    written-refused ofStart r (unfoldedStartOf (now (a .0)) (length (now (a .1 .0)))) _ (now (a .1 .0)) (now (x .1 .0)) (h .0) (unfolded-start-listed (now (a .0)) (length (now (a .1 .0)))) (h .1)
+
+pub unfolded-fire-refused : (κs : _) (a : _) (r : _) (x : _) → unfolded-fire.Learnt κs a r x → Refusing ofUnfoldedFiring r (now (a .1 .0)) (now (x .1 .0))
+unfolding unfoldedFiredOf
+unfolded-fire-refused κs a r x h =
+    leaves-refused ofUnfoldedFiring r (unfoldedFireOf (now (a .0)) (now (a .1 .0)) (a .1 .1 .0 .0)) _ (now (a .1 .0)) (now (x .1 .0)) (h .0) (unfolded-fire-listed (now (a .0)) (now (a .1 .0)) (a .1 .1 .0 .0)) (h .1)
+
+-- ---- across
+
+pub lift-refused : (κs : _) (a : _) (r : _) (x : _) → lift.Learnt κs a r x → Refusing ofLift r (now (a .1 .1 .0)) (now (x .1 .1 .0))
+unfolding liftedOf
+lift-refused κs a r x h =
+    written-refused ofLift r (liftOf (now (a .0)) (now (a .1 .0)) (length (now (a .1 .1 .0)))) _ (now (a .1 .1 .0)) (now (x .1 .1 .0)) (h .0) (lift-listed (now (a .0)) (now (a .1 .0)) (length (now (a .1 .1 .0)))) (h .1)
+
+pub lift-end-refused : (κs : _) (a : _) (r : _) (x : _) → lift-end.Learnt κs a r x → Refusing ofLift r (now (a .1 .1 .0)) (now (x .1 .1 .0))
+unfolding liftEndedOf
+lift-end-refused κs a r x h =
+    written-refused ofLift r (liftEndOf (now (a .0)) (now (a .1 .0)) (length (now (a .1 .1 .0)))) _ (now (a .1 .1 .0)) (now (x .1 .1 .0)) (h .0) (lift-end-listed (now (a .0)) (now (a .1 .0)) (length (now (a .1 .1 .0)))) (h .1)
+
+pub project-refused : (κs : _) (a : _) (r : _) (x : _) → project.Learnt κs a r x → Refusing ofProject r (now (a .1 .1 .0)) (now (x .1 .1 .0))
+unfolding projectedOf
+project-refused κs a r x h =
+    written-refused ofProject r (projectOf (now (a .0)) (now (a .1 .0)) (length (now (a .1 .1 .0)))) _ (now (a .1 .1 .0)) (now (x .1 .1 .0)) (h .0) (project-listed (now (a .0)) (now (a .1 .0)) (length (now (a .1 .1 .0)))) (h .1)
+
+pub unfolded-replay-refused : (κs : _) (a : _) (r : _) (x : _) → unfolded-replay.Learnt κs a r x → Refusing ofProject r (now (a .1 .1 .0)) (now (x .1 .1 .0))
+unfolding unfoldedReplayedOf
+unfolded-replay-refused κs a r x h =
+    written-refused ofProject r (unfoldedReplayOf (now (a .0)) (now (a .1 .0)) (length (now (a .1 .1 .0)))) _ (now (a .1 .1 .0)) (now (x .1 .1 .0)) (h .0) (unfolded-replay-listed (now (a .0)) (now (a .1 .0)) (length (now (a .1 .1 .0)))) (h .1)
