@@ -1,0 +1,3 @@
+-- The laws: numbers stored one after the other, then what is asked for.
+pub mod Stored
+pub mod Listed

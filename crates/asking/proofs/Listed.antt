@@ -1,0 +1,76 @@
+-- A list asked for: what is answered and left where the asking is refused and where it is fine, and the lists of a table.
+use Prim.Native.Nat.{ℕ, _≤_}
+use native.Mathlib.Omega.{arith}
+use mathlib.Core.Path.{_≡_, refl, sym, ap, _∙_}
+use mathlib.Core.List.{List, _++_}
+use lib.Dec.{leb}
+use lib.ListN.{length, getD, take, drop}
+use lib.Seq.{getD-take, length-take-le}
+use Rattle.words.specs.Words.{words}
+use Rattle.model.specs.Net.{begin, Marking}
+use Rattle.model.specs.Lent.{bytes}
+use Rattle.model.proofs.Lent.{length-bytes, bytes-at, bytes-are}
+use Rattle.refusal.specs.declared.Refusal.{Refusal}
+use Rattle.refusal.specs.declared.Judged.{Judged}
+use Rattle.refusal.specs.declared.Judged.the-variants.{Fine, Refused}
+use Rattle.refusal.specs.Answer.{need, andThen, fitting, written}
+use Rattle.records.specs.Records.{conditions, prePart, postPart}
+use Rattle.table.specs.Walk.{judgeOf}
+use Rattle.table.specs.Asked.{askedOf}
+use Rattle.table.specs.Decoded.{netOf}
+use Rattle.table.proofs.Decoded.{asked-fine}
+use Rattle.table.proofs.Sound.{tabled}
+use Rattle.game.specs.Calls.{leaves}
+use Rattle.game.proofs.Marked.{conditions-are}
+use Rattle.asking.specs.Calls.{startOf, startInto}
+
+-- An asking x for a list of which so many fit.
+module _ (x : Judged) (list out : List ℕ) (needed : ℕ) where
+  abbrev whole : Judged
+  whole = andThen x (λ at. fitting needed (length out))
+
+  pub listed-refused : (r : Judged) (refusal : Refusal) → r ≡ x → r ≡ Refused refusal → (r ≡ whole) × (out ≡ written whole list out)
+  listed-refused r refusal e t =
+      let told : x ≡ Refused refusal = sym e ∙ t in
+      (t ∙ sym (ap (λ (y : Judged). andThen y (λ at. fitting needed (length out))) told), rw told)
+
+  pub listed-fine : (at : ℕ) → x ≡ Fine at → (r : Judged) (l after : List ℕ) (count : ℕ) → l ≡ list → count ≡ needed → r ≡ fitting count (length out) → after ≡ written r l out
+      → (r ≡ whole) × (after ≡ written whole list out)
+  listed-fine at t r l after count e k f g =
+      let same : r ≡ whole = f ∙ ap (λ (y : ℕ). fitting y (length out)) k ∙ sym (ap (λ (y : Judged). andThen y (λ at. fitting needed (length out))) t) in
+      (same, g ∙ ap (λ (y : List ℕ). written r y out) e ∙ ap (λ (y : Judged). written y list out) same)
+
+-- The lists of an event that was found.
+module _ (s : List ℕ) (e at : ℕ) (t : askedOf s e ≡ Fine at) where
+  pub pre-read : (l : List ℕ) → l ≡ prePart s at → words l ≡ netOf s .preconditions e
+  unfolding netOf
+  pre-read l p = let a = asked-fine s e at t in simp (a .judged) (ap words p ∙ ap (λ (x : ℕ). words (prePart s x)) (a .atIs))
+
+  pub post-read : (l : List ℕ) → l ≡ postPart s at → words l ≡ netOf s .postconditions e
+  unfolding netOf
+  post-read l p = let a = asked-fine s e at t in simp (a .judged) (ap words p ∙ ap (λ (x : ℕ). words (postPart s x)) (a .atIs))
+
+-- The first bytes of a marking of more conditions are those of the marking.
+pub first-bytes : (c d : ℕ) (m : Marking) (l : List ℕ) → c ≤ d → l ≡ bytes d m → take c l ≡ bytes c m
+first-bytes c d m l h e =
+    let long : length l ≡ d = ap length e ∙ length-bytes d m in
+    bytes-are (take c l) c m (length-take-le c l (omega arith))
+    (λ i p. getD-take c l i 0 p ∙ ap (λ (x : List ℕ). getD x i 0) e ∙ bytes-at d m i (omega arith))
+
+-- What is left by a call that writes a list of so many elements.
+pub left-written : (r : Judged) (l out : List ℕ) (count : ℕ) → length l ≡ count → leaves r (l ++ drop count out) out ≡ written r l out
+left-written (Fine value) l out count e = ap (λ (k : ℕ). l ++ drop k out) (sym e)
+left-written (Refused refusal) l out count e = refl
+
+-- The start of a judged table, once its marking is there as bytes.
+pub start-fine : (s : List ℕ) (n : ℕ) → judgeOf s ≡ Fine n → (state : List ℕ) → state ≡ bytes 256 (begin (netOf s)) → (count : ℕ) → count ≡ conditions s
+    → (out after : List ℕ) (r : Judged) → r ≡ need (leb count (length out)) 16 count (Fine count) → after ≡ leaves r (take count state ++ drop count out) out
+    → (r ≡ startOf s (length out)) × (after ≡ startInto s out)
+unfolding startOf startInto fitting
+start-fine s n j state b count k out after r f g =
+    let same : count ≡ netOf s .conditions = k ∙ sym (conditions-are s n j) in
+    let few : count ≤ 256 = omega (arith, same, tabled s n j .few-conditions) in
+    let first : take count state ≡ bytes count (begin (netOf s)) = first-bytes count 256 (begin (netOf s)) state few b in
+    let long : length (take count state) ≡ count = ap length first ∙ length-bytes count (begin (netOf s)) in
+    listed-fine (judgeOf s) (bytes (netOf s .conditions) (begin (netOf s))) out (netOf s .conditions) n j r (take count state) after count
+    (first ∙ ap (λ (x : ℕ). bytes x (begin (netOf s))) same) same f (g ∙ left-written r (take count state) out count long)

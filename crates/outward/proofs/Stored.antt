@@ -1,0 +1,64 @@
+-- What a loop stores from the first element on, and the markers of a colour one by one.
+use Prim.Native.Nat.{ℕ, zero, suc, _+_, _-_, _≤_, _<_}
+use native.Mathlib.Numerals.{add-one}
+use native.Mathlib.Nat.{not-suc-le-zero, le-of-suc-le-suc, zero-add, add-zero, add-suc, suc-add}
+use native.Mathlib.Omega.{arith}
+use mathlib.Core.Path.{_≡_, refl, ap, _∙_}
+use mathlib.Core.List.{List, [], _∷_, _++_, map}
+use lib.ListN.{length, getD, drop, set, drop-of-length-le, length-map}
+use lib.Seq.{drop-cons, sets, sets-eq}
+use Rattle.lists.specs.Lists.{count}
+use Rattle.lists.proofs.Members.{length-count}
+use Rattle.refusal.specs.declared.Marker.the-variants.{Start}
+use Rattle.unfolding.specs.declared.Colour.{Colour}
+use Rattle.unfolding.specs.Markers.{markerAt, colourOf}
+use Rattle.outward.specs.Words.{startWord, wordOf, markerOf, picksFor, wordsOf}
+
+module _ {A : Type 0} where
+  -- Stored whole, a list that fits stands first, and everything past it stays.
+  pub stored-whole : (list out : List A) → length list ≤ length out → sets out 0 list ≡ list ++ drop (length list) out
+  stored-whole list out h = rw (sets-eq list out 0 (omega arith), zero-add)
+
+  -- Storing what is left from element k on is to store that element and then what is left after it.
+  pub store-next : (out list : List A) (k : ℕ) (d : A) → k < length list → sets out k (drop k list) ≡ sets (set out k (getD list k d)) (k + 1) (drop (k + 1) list)
+  store-next out list k d h = rw (add-one, drop-cons list k d h)
+
+  -- Nothing is left past the last element.
+  pub store-end : (out list : List A) (k : ℕ) → length list ≤ k → sets out k (drop k list) ≡ out
+  store-end out list k h = rw (drop-of-length-le list h)
+
+  -- An element that is there is read with any default.
+  pub read-with : (l : List A) (i : ℕ) (a b : A) → i < length l → getD l i a ≡ getD l i b
+  read-with [] i a b h = absurd (not-suc-le-zero h)
+  read-with (x ∷ l) zero a b h = refl
+  read-with (x ∷ l) (suc i) a b h = read-with l i a b (le-of-suc-le-suc h)
+
+  counted-at : (f : ℕ → A) (d : A) (k c i : ℕ) → i < c → getD (map f (count k c)) i d ≡ f (k + i)
+  counted-at f d k zero i h = absurd (not-suc-le-zero h)
+  counted-at f d k (suc c) zero h = rw add-zero
+  counted-at f d k (suc c) (suc i) h = rw (add-suc, ← suc-add k i) (counted-at f d (suc k) c i (le-of-suc-le-suc h))
+
+  mapped-at : {B : Type 0} (g : B → A) (f : ℕ → B) (d : A) (k c i : ℕ) → i < c → getD (map g (map f (count k c))) i d ≡ g (f (k + i))
+  mapped-at g f d k zero i h = absurd (not-suc-le-zero h)
+  mapped-at g f d k (suc c) zero h = rw add-zero
+  mapped-at g f d k (suc c) (suc i) h = rw (add-suc, ← suc-add k i) (mapped-at g f d (suc k) c i (le-of-suc-le-suc h))
+
+-- ---- the markers that numbers say
+
+pub picks-long : (ws : List ℕ) → length (picksFor ws) ≡ 16
+unfolding picksFor
+picks-long ws = refl
+
+pub pick-at : (ws : List ℕ) (i : ℕ) → i < 16 → getD (picksFor ws) i (record { 0 = Start }) ≡ record { 0 = markerOf (getD ws i startWord) }
+unfolding picksFor
+pick-at ws i h = counted-at (λ (j : ℕ). record { 0 = markerOf (getD ws j startWord) }) (record { 0 = Start }) 0 16 i h ∙ ap (λ (j : ℕ). record { 0 = markerOf (getD ws j startWord) }) (zero-add i)
+
+-- ---- the markers of a colour as numbers
+
+pub words-long : (c : Colour) → length (wordsOf c) ≡ c .count
+unfolding wordsOf
+words-long c = length-map (colourOf c) wordOf ∙ length-map (count 0 (c .count - 0)) (markerAt c) ∙ length-count 0 (c .count - 0) ∙ omega arith
+
+pub word-here : (c : Colour) (i : ℕ) → i < c .count → getD (wordsOf c) i 0 ≡ wordOf (markerAt c i)
+unfolding wordsOf
+word-here c i h = mapped-at wordOf (markerAt c) 0 0 (c .count - 0) i (omega arith) ∙ ap (λ (j : ℕ). wordOf (markerAt c j)) (zero-add i)

@@ -1,0 +1,4 @@
+-- The definitions, in reading order.
+pub mod Told
+pub mod Words
+pub mod Origins
