@@ -1,0 +1,7 @@
+pub mod Texts
+pub mod Decimal
+pub mod Held
+pub mod Lines
+pub mod Answers
+pub mod Pieces
+pub mod Examples

@@ -1,0 +1,66 @@
+-- Texts put at a place of lent bytes, one after the other, and a whole one as the answer.
+use Prim.Native.Nat.{ℕ, suc, _+_, _≤_, _<_}
+use native.Mathlib.Numerals.{add-one}
+use native.Mathlib.Nat.{add-zero, zero-add, add-suc, suc-add}
+use native.Mathlib.Omega.{arith}
+use mathlib.Core.Path.{_≡_, refl, sym, _∙_, ap, subst}
+use mathlib.Core.List.{List, [], _∷_, _++_}
+use lib.ListN.{length, length-append, getD, drop, set, drop-of-length-le, length-set}
+use lib.Seq.{sets, sets-eq, length-sets, set-comm, set-out, drop-cons}
+use Rattle.listing.specs.Puts.{Put}
+
+-- Storing two texts, one after the other, is storing both as one.
+sets-both : (x y out : List ℕ) (at : ℕ) → sets out at (x ++ y) ≡ sets (sets out at x) (at + length x) y
+sets-both [] y out at = rw add-zero
+sets-both (b ∷ x) y out at = rw (add-suc, ← suc-add) (sets-both x y (set out at b) (suc at))
+
+-- A last byte may be stored before those in front of it.
+pub sets-last : (x out : List ℕ) (b at : ℕ) → sets out at (x ++ (b ∷ [])) ≡ sets (set out (at + length x) b) at x
+sets-last [] out b at = rw add-zero
+sets-last (a ∷ x) out b at =
+    rw (add-suc, ← suc-add, set-comm out (suc at + length x) at b a (λ e. omega arith)) (sets-last x (set out at a) b (suc at))
+
+-- One byte is put where there is room, and left out where there is none.
+pub byte-in : (out : List ℕ) (at b : ℕ) → Put out at (b ∷ []) (at + 1) (set out at b)
+byte-in out at b = record { told = refl; stored = refl }
+
+pub byte-out : (out : List ℕ) (at b : ℕ) → length out ≤ at → Put out at (b ∷ []) (at + 1) out
+byte-out out at b h = record { told = refl; stored = sym (set-out out at b h) }
+
+-- Nothing is put.
+pub nothing-put : (out : List ℕ) (at : ℕ) → Put out at [] at out
+nothing-put out at = record { told = omega arith; stored = refl }
+
+-- Two texts are put, one where the other ends.
+pub both : {out : List ℕ} {at : ℕ} {x : List ℕ} {r : ℕ} {mid y : List ℕ} {r' : ℕ} {after : List ℕ} → Put out at x r mid → Put mid r y r' after → Put out at (x ++ y) r' after
+both {out} {at} {x} {r} {mid} {y} p q =
+    record {
+      told = rw length-append (omega (arith, p .told, q .told));
+      stored = q .stored ∙ rw (p .stored, p .told, sets-both x y out at);
+    }
+
+-- Equal texts are put alike.
+pub same-text : {out : List ℕ} {at : ℕ} {x y : List ℕ} {r : ℕ} {after : List ℕ} → x ≡ y → Put out at x r after → Put out at y r after
+same-text {out} {at} {x} {y} {r} {after} e p = subst (λ (t : List ℕ). Put out at t r after) e p
+
+-- The output is as long as before.
+pub put-long : {out : List ℕ} {at : ℕ} {x : List ℕ} {r : ℕ} {after : List ℕ} → Put out at x r after → length after ≡ length out
+put-long {out} {at} {x} p = ap length (p .stored) ∙ length-sets out at x
+
+-- A text that fits, put at the first byte, is the answer with everything past it as it was.
+pub put-whole : {out x : List ℕ} {r : ℕ} {after : List ℕ} → Put out 0 x r after → length x ≤ length out → after ≡ x ++ drop (length x) out
+put-whole {out} {x} p h = p .stored ∙ rw (sets-eq x out 0 (omega arith), zero-add)
+
+-- Storing a text from its byte k on is storing that byte and then the text after it, and nothing is left past the last.
+pub next-byte : (text out : List ℕ) (at k : ℕ) → k < length text → sets out (at + k) (drop k text) ≡ sets (set out (at + k) (getD text k 0)) (at + (k + 1)) (drop (k + 1) text)
+next-byte text out at k h =
+    let e : at + (k + 1) ≡ suc (at + k) = omega arith in
+    rw (e, add-one, drop-cons text k 0 h)
+
+pub no-byte : (text out : List ℕ) (at k : ℕ) → length text ≤ k → sets out (at + k) (drop k text) ≡ out
+no-byte text out at k h = rw (drop-of-length-le text h)
+
+-- What is left to put after a text is left of both, so that the place and the bytes come out the same.
+pub goes-on : {out : List ℕ} {at : ℕ} {x : List ℕ} {r : ℕ} {mid : List ℕ} (y : List ℕ) → Put out at x r mid → (r + length y ≡ at + length (x ++ y)) × (sets mid r y ≡ sets out at (x ++ y))
+goes-on {out} {at} {x} {r} {mid} y p =
+    (rw length-append (omega (arith, p .told)), rw (p .stored, p .told, sets-both x y out at))
