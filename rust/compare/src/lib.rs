@@ -1,0 +1,6 @@
+//! The comparison of every call of the proved library with the second implementation, on generated cases.
+
+pub mod case;
+pub mod expected;
+pub mod nets;
+pub mod tally;

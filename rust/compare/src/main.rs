@@ -1,0 +1,209 @@
+//! Compares the proved library, asked over the driver, with the second implementation:
+//! `compare [--cases N] [--seed S]`, or `compare --case SEED` for one case alone.
+
+use std::process::ExitCode;
+use std::sync::mpsc::{sync_channel, Receiver};
+use std::thread;
+use std::time::Instant;
+
+use compare::case::case;
+use compare::expected::expected;
+use compare::tally::Tally;
+use second::generator::Random;
+use wire::{Driver, Reply, Request};
+
+/// The cases that are sent to the driver at once.
+const BATCH: u64 = 256;
+
+/// From so many cases on, each call must have come to every outcome that the header lists.
+const LONG: u64 = 100_000;
+
+/// The differences that are shown; further ones are counted.
+const SHOWN: u64 = 5;
+
+/// The bytes that are shown of a table, a marking, a run or an output.
+const SHOWN_BYTES: usize = 600;
+
+/// What the words of the command ask for.
+struct Wanted {
+    cases: u64,
+    seed: u64,
+    one: Option<u64>,
+}
+
+/// Reads the words of the command.
+fn wanted() -> Option<Wanted> {
+    let mut wanted = Wanted {
+        cases: 200_000,
+        seed: 2026,
+        one: None,
+    };
+    let mut words = std::env::args().skip(1);
+    while let Some(word) = words.next() {
+        let number = words.next()?.parse().ok()?;
+        match word.as_str() {
+            "--cases" => wanted.cases = number,
+            "--seed" => wanted.seed = number,
+            "--case" => wanted.one = Some(number),
+            _ => return None,
+        }
+    }
+    Some(wanted)
+}
+
+/// A case with what it must come to.
+struct Case {
+    seed: u64,
+    request: Request,
+    expected: Reply,
+}
+
+/// Makes the case of a seed.
+fn made(seed: u64) -> Case {
+    let request = case(seed);
+    let expected = expected(&request);
+    Case {
+        seed,
+        request,
+        expected,
+    }
+}
+
+/// The seed of a case by its place in the comparison.
+fn case_seed(seed: u64, place: u64) -> u64 {
+    Random::new(seed.wrapping_add(place.wrapping_mul(0xd134_2543_de82_ef95))).draw()
+}
+
+/// Bytes as text, cut where they are many.
+fn shown(bytes: &[u8]) -> String {
+    let digits = bytes.iter().take(SHOWN_BYTES).map(|b| format!("{b:02x}"));
+    let text: String = digits.collect();
+    let more = if bytes.len() > SHOWN_BYTES { ".." } else { "" };
+    format!("{} bytes {text}{more}", bytes.len())
+}
+
+/// One reply as text, without what it shares with the other.
+fn reply_text(reply: &Reply, other: &Reply) -> String {
+    let mut text = format!(
+        "number {} place {} values {:?} kept {}",
+        reply.number, reply.place, reply.values, reply.kept
+    );
+    if reply.given != other.given {
+        text.push_str(&format!("\n    given {}", shown(&reply.given)));
+    }
+    if reply.lent != other.lent {
+        text.push_str(&format!("\n    lent {}", shown(&reply.lent)));
+    }
+    text
+}
+
+/// A case with both replies as text.
+fn case_text(case: &Case, got: &Reply) -> String {
+    let Request {
+        call,
+        table,
+        given,
+        lent,
+        numbers,
+        values,
+    } = &case.request;
+    format!(
+        "case {}: {}\n  table {}\n  given {}\n  lent {}\n  numbers {numbers:?} values {values:?}\n  second  {}\n  library {}",
+        case.seed,
+        call.name(),
+        shown(table),
+        shown(given),
+        shown(lent),
+        reply_text(&case.expected, got),
+        reply_text(got, &case.expected),
+    )
+}
+
+/// Starts a thread that makes every `step`-th batch from the first on.
+fn maker(wanted: &Wanted, first: u64, step: u64) -> Receiver<Vec<Case>> {
+    let (to, from) = sync_channel(2);
+    let (cases, seed) = (wanted.cases, wanted.seed);
+    thread::spawn(move || {
+        let mut place = first * BATCH;
+        while place < cases {
+            let places = place..cases.min(place + BATCH);
+            let batch = places.map(|at| made(case_seed(seed, at))).collect();
+            if to.send(batch).is_err() {
+                return;
+            }
+            place += step * BATCH;
+        }
+    });
+    from
+}
+
+/// Compares all cases and tells what was seen; true if nothing differed or was missed.
+fn compare_all(wanted: &Wanted, driver: &mut Driver) -> std::io::Result<bool> {
+    let begun = Instant::now();
+    let threads = thread::available_parallelism().map_or(1, |n| n.get().min(4)) as u64;
+    let makers: Vec<_> = (0..threads).map(|n| maker(wanted, n, threads)).collect();
+    let (mut tally, mut done, mut differences) = (Tally::default(), 0, 0);
+    'all: loop {
+        for made in &makers {
+            let Ok(batch) = made.recv() else {
+                break 'all;
+            };
+            let requests: Vec<Request> = batch.iter().map(|case| case.request.clone()).collect();
+            for (case, got) in batch.iter().zip(driver.ask_all(&requests)?) {
+                tally.count(&case.request, &case.expected);
+                if got != case.expected {
+                    differences += 1;
+                    if differences <= SHOWN {
+                        println!("difference in {}", case_text(case, &got));
+                    }
+                }
+            }
+            done += batch.len() as u64;
+            if done / 500_000 != (done - batch.len() as u64) / 500_000 {
+                eprintln!("{done} cases, {differences} differences");
+            }
+        }
+    }
+    print!("{}", tally.table());
+    let (missed, unlisted) = (tally.missed(), tally.unlisted());
+    missed
+        .iter()
+        .chain(&unlisted)
+        .for_each(|what| println!("{what}"));
+    println!(
+        "seed {}: {done} cases in {:.1} s, {differences} differences",
+        wanted.seed,
+        begun.elapsed().as_secs_f64()
+    );
+    let seen = wanted.cases < LONG || missed.is_empty();
+    Ok(done == wanted.cases && differences == 0 && seen && unlisted.is_empty())
+}
+
+/// Compares one case and shows it.
+fn compare_one(seed: u64, driver: &mut Driver) -> std::io::Result<bool> {
+    let case = made(seed);
+    let got = driver.ask(&case.request)?;
+    println!("{}", case_text(&case, &got));
+    let same = got == case.expected;
+    println!("{}", if same { "no difference" } else { "difference" });
+    Ok(same)
+}
+
+fn main() -> ExitCode {
+    let Some(wanted) = wanted() else {
+        eprintln!("usage: compare [--cases N] [--seed S], or compare --case SEED");
+        return ExitCode::from(2);
+    };
+    let compared = Driver::open().and_then(|mut driver| match wanted.one {
+        Some(seed) => compare_one(seed, &mut driver),
+        None => compare_all(&wanted, &mut driver),
+    });
+    match compared {
+        Ok(true) => ExitCode::SUCCESS,
+        Ok(false) => ExitCode::FAILURE,
+        Err(error) => {
+            eprintln!("compare: {error}");
+            ExitCode::from(2)
+        }
+    }
+}

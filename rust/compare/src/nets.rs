@@ -1,0 +1,169 @@
+//! Nets and tables to ask about, beyond those of the second implementation's generator.
+
+use second::generator::{
+    damaged, endless_net, event_limit_net, large_net, limit_net, middle_net, small_net, Random,
+};
+use second::table::{table_bytes, Event, Net};
+
+/// A table to ask about, with the net that it says, or said before it was damaged.
+pub struct Asked {
+    pub bytes: Vec<u8>,
+    pub net: Net,
+}
+
+/// A number below a bound, as two bytes.
+fn word_below(random: &mut Random, bound: usize) -> u16 {
+    random.below(bound) as u16
+}
+
+/// The numbers below a count in a random order.
+fn shuffled(random: &mut Random, count: usize) -> Vec<u16> {
+    let mut order: Vec<u16> = (0..=u16::MAX).take(count).collect();
+    for last in (1..count).rev() {
+        order.swap(last, random.below(last + 1));
+    }
+    order
+}
+
+/// A list in ascending order, each number once.
+fn ascending(mut list: Vec<u16>) -> Vec<u16> {
+    list.sort_unstable();
+    list.dedup();
+    list
+}
+
+/// A net with long runs that lift: a token goes round a ring of ordinary conditions, its events read persistent conditions, and
+/// each of those is marked at the start or by events that occur once.
+pub fn ring_net(random: &mut Random) -> Net {
+    let ring = random.between(2, 7);
+    let persistent = random.between(1, 5);
+    let setters = random.between(persistent, 2 * persistent);
+    let names = shuffled(random, ring + persistent + setters);
+    let (around, rest) = names.split_at(ring);
+    let (lasting, once) = rest.split_at(persistent);
+    let mut events = Vec::new();
+    for (place, from) in around.iter().enumerate() {
+        let read = lasting.iter().copied().filter(|_| random.percent(30));
+        let taken: Vec<u16> = read.chain([*from]).collect();
+        let to = around[(place + 1) % ring];
+        events.push((taken, vec![to]));
+    }
+    for (place, from) in once.iter().enumerate() {
+        let mut put = vec![lasting[place % persistent]];
+        if random.percent(20) {
+            put.push(lasting[random.below(persistent)]);
+        }
+        events.push((vec![*from], put));
+    }
+    let order = shuffled(random, events.len());
+    let event = |e: &u16| Event {
+        preconditions: ascending(events[usize::from(*e)].0.clone()),
+        postconditions: ascending(events[usize::from(*e)].1.clone()),
+    };
+    let held = lasting.iter().copied().filter(|_| random.percent(40));
+    let start = held.chain([around[0]]).chain(once.iter().copied());
+    Net {
+        start: ascending(start.collect()),
+        events: order.iter().map(event).collect(),
+        persistent: (0..=u16::MAX)
+            .take(names.len())
+            .map(|b| lasting.contains(&b))
+            .collect(),
+    }
+}
+
+/// The largest table: 256 conditions, 256 events, and every list as long as it can be.
+pub fn full_net(random: &mut Random) -> Net {
+    let all: Vec<u16> = (0..256).collect();
+    let event = Event {
+        preconditions: all.clone(),
+        postconditions: all.clone(),
+    };
+    let mut net = Net {
+        persistent: vec![false; 256],
+        events: vec![event; 256],
+        start: all,
+    };
+    if random.percent(50) {
+        let (event, place) = (random.below(256), random.below(256));
+        net.events[event].preconditions.remove(place);
+    }
+    net
+}
+
+/// The net of 65,535 unfolded events, from a random start.
+fn started_limit_net(random: &mut Random) -> Net {
+    let mut net = event_limit_net();
+    net.start = (0..15).filter(|_| random.percent(50)).collect();
+    net
+}
+
+/// A net with an event that touches nothing once unfolded.
+fn idle_net(random: &mut Random) -> Net {
+    let mut net = small_net(random);
+    let last = net.persistent.len() as u16;
+    net.persistent.push(true);
+    let place = random.below(net.events.len() + 1);
+    let idle = Event {
+        preconditions: Vec::new(),
+        postconditions: vec![last],
+    };
+    net.events.insert(place, idle);
+    net
+}
+
+/// A net of any kind, mostly small.
+pub fn any_net(random: &mut Random) -> Net {
+    match random.below(1000) {
+        0..=479 => small_net(random),
+        480..=799 => ring_net(random),
+        800..=939 => middle_net(random),
+        940..=969 => idle_net(random),
+        970..=977 => large_net(random),
+        978..=981 => full_net(random),
+        982..=985 => started_limit_net(random),
+        986..=991 => limit_net(random),
+        _ => endless_net(),
+    }
+}
+
+/// A sound table with one to three bytes changed, which is mostly refused and now and then another sound table.
+fn changed(random: &mut Random, net: &Net) -> Vec<u8> {
+    let mut bytes = table_bytes(net);
+    for _ in 0..random.between(1, 3) {
+        let place = random.below(bytes.len());
+        bytes[place] = match random.below(3) {
+            0 => random.word() as u8,
+            1 => bytes[place].wrapping_add(1),
+            _ => bytes[place].wrapping_sub(1),
+        };
+    }
+    bytes
+}
+
+/// A table of any kind: sound, damaged in a known way, changed somewhere, or no table at all.
+pub fn any_table(random: &mut Random) -> Asked {
+    let net = any_net(random);
+    let bytes = match random.below(100) {
+        0..=11 => damaged(random, &net).bytes,
+        12..=14 => changed(random, &net),
+        15 => {
+            let count = random.below(60);
+            random.bytes(count)
+        }
+        _ => table_bytes(&net),
+    };
+    Asked { bytes, net }
+}
+
+/// A number of something of which there are so many: mostly one that is there, else the next, or one far off.
+pub fn any_number(random: &mut Random, count: usize) -> u16 {
+    match random.below(100) {
+        0..=84 => word_below(random, count),
+        85..=89 => count as u16,
+        90..=91 => (count as u16).wrapping_add(1),
+        92..=94 => word_below(random, count).wrapping_add(256 * (1 + word_below(random, 255))),
+        95..=96 => u16::MAX,
+        _ => random.word(),
+    }
+}
