@@ -171,6 +171,9 @@ fn any_unfolded_run(random: &mut Random, net: &Net) -> Vec<u16> {
 
 /// A marking of so many conditions at which an event mostly fires or nearly does; an unknown event gets any marking.
 fn marking_for(random: &mut Random, conditions: usize, event: Option<Event>) -> Vec<u8> {
+    if conditions == 0 {
+        return vec![0; random.below(2)];
+    }
     let mut marking = any_marking(random, conditions);
     let Some(event) = event.filter(|_| random.percent(80)) else {
         return marking;
@@ -397,7 +400,8 @@ fn ask_run(random: &mut Random, request: &mut Request, net: &Net) {
                 0 => u64::MAX - random.below(2) as u64,
                 1 => 1 << random.between(16, 63),
                 2 => steps as u64,
-                _ => random.below(steps) as u64,
+                3 => steps.saturating_sub(1) as u64,
+                _ => random.below(steps.saturating_sub(1)) as u64,
             };
         }
         _ => lend(random, request, unfolded, 1),

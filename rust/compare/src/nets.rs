@@ -98,6 +98,27 @@ fn started_limit_net(random: &mut Random) -> Net {
     net
 }
 
+/// A small table with a power of colours: an event reads so many persistent conditions, each marked by the same few events; within
+/// the limit of unfolded events or far over it.
+fn power_net(random: &mut Random) -> Net {
+    let read: Vec<u16> = (0..=u16::MAX).take(random.between(10, 16)).collect();
+    let setter = Event {
+        preconditions: Vec::new(),
+        postconditions: read.clone(),
+    };
+    let reader = Event {
+        preconditions: read.clone(),
+        postconditions: Vec::new(),
+    };
+    let mut events = vec![setter; random.between(1, 3)];
+    events.insert(random.below(events.len() + 1), reader);
+    Net {
+        persistent: vec![true; read.len()],
+        events,
+        start: read.into_iter().filter(|_| random.percent(50)).collect(),
+    }
+}
+
 /// A net with an event that touches nothing once unfolded.
 fn idle_net(random: &mut Random) -> Net {
     let mut net = small_net(random);
@@ -121,8 +142,9 @@ pub fn any_net(random: &mut Random) -> Net {
         940..=969 => idle_net(random),
         970..=977 => large_net(random),
         978..=981 => full_net(random),
-        982..=985 => started_limit_net(random),
-        986..=991 => limit_net(random),
+        982..=983 => started_limit_net(random),
+        984..=986 => limit_net(random),
+        987..=998 => power_net(random),
         _ => endless_net(),
     }
 }
