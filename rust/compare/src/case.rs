@@ -89,13 +89,14 @@ fn lend(random: &mut Random, request: &mut Request, needed: usize, size: usize) 
 /// How a run is walked; in a net of many events only a short way, since looking for one that fires takes long there.
 fn any_walk(random: &mut Random, events: usize) -> Walk {
     let steps = match random.below(100) {
-        0 if events <= 20 => random.between(4_090, MOST_STEPS),
-        1..=9 if events <= 40 => random.below(150),
+        0..=1 if events <= 20 => random.between(4_090, MOST_STEPS),
+        2..=9 if events <= 40 => random.below(150),
         _ => random.below(14),
     };
+    let arbitrary = [0, 0, 0, 5, 30][random.below(5)];
     Walk {
         steps,
-        arbitrary: [0, 0, 0, 5, 30][random.below(5)],
+        arbitrary: if steps < 1_000 { arbitrary } else { 0 },
         avoid_repeats: random.percent(70),
     }
 }
@@ -225,6 +226,11 @@ fn odd_marker(random: &mut Random, events: usize) -> u32 {
     }
 }
 
+/// A word that is a given marker in its lower two bytes alone.
+fn widened(random: &mut Random, marker: u32) -> u32 {
+    marker ^ (random.between(1, 0xffff) << 16) as u32
+}
+
 /// Markers for an event, mostly one for each persistent precondition.
 fn any_markers(random: &mut Random, net: &Net, event: u16) -> Vec<u32> {
     let read = match net.events.get(usize::from(event)) {
@@ -238,7 +244,10 @@ fn any_markers(random: &mut Random, net: &Net, event: u16) -> Vec<u32> {
     match random.below(100) {
         0..=9 if !chosen.is_empty() => {
             let place = random.below(chosen.len());
-            chosen[place] = odd_marker(random, net.events.len());
+            chosen[place] = match random.below(2) {
+                0 => widened(random, chosen[place]),
+                _ => odd_marker(random, net.events.len()),
+            };
         }
         10..=14 => {
             chosen.pop();
@@ -258,8 +267,11 @@ fn any_condition(random: &mut Random, net: &Net) -> [u64; 4] {
     let mut marker = odd_marker(random, events);
     let mut user = any_number(random, events);
     if persistent {
-        if random.percent(85) {
+        if random.percent(90) {
             marker = marker_word(any_marker(random, net, condition));
+        }
+        if random.percent(5) {
+            marker = widened(random, marker);
         }
         let found = users(net, condition);
         if let Some(found) = found.get(random.below(found.len())) {

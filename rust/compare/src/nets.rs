@@ -98,10 +98,11 @@ fn started_limit_net(random: &mut Random) -> Net {
     net
 }
 
-/// A small table with a power of colours: an event reads so many persistent conditions, each marked by the same few events; within
-/// the limit of unfolded events or far over it.
+/// A small table with a power of colours: an event reads so many persistent conditions, each marked by the same few events; mostly
+/// some thousand unfolded events, now and then far over the limit.
 fn power_net(random: &mut Random) -> Net {
-    let read: Vec<u16> = (0..=u16::MAX).take(random.between(10, 16)).collect();
+    let most = if random.percent(80) { 11 } else { 16 };
+    let read: Vec<u16> = (0..=u16::MAX).take(random.between(8, most)).collect();
     let setter = Event {
         preconditions: Vec::new(),
         postconditions: read.clone(),
@@ -136,16 +137,16 @@ fn idle_net(random: &mut Random) -> Net {
 /// A net of any kind, mostly small.
 pub fn any_net(random: &mut Random) -> Net {
     match random.below(1000) {
-        0..=479 => small_net(random),
-        480..=799 => ring_net(random),
-        800..=939 => middle_net(random),
-        940..=969 => idle_net(random),
-        970..=977 => large_net(random),
-        978..=981 => full_net(random),
-        982..=983 => started_limit_net(random),
-        984..=986 => limit_net(random),
-        987..=998 => power_net(random),
-        _ => endless_net(),
+        0..=459 => small_net(random),
+        460..=779 => ring_net(random),
+        780..=919 => middle_net(random),
+        920..=949 => idle_net(random),
+        950..=957 => large_net(random),
+        958..=961 => full_net(random),
+        962..=963 => started_limit_net(random),
+        964..=966 => limit_net(random),
+        967 => endless_net(),
+        _ => power_net(random),
     }
 }
 
