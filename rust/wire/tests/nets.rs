@@ -1,0 +1,266 @@
+//! The nets and limits of the requirements, asked of the library through the driver that the environment names.
+
+use wire::{whole, Answer, ConditionOrigin, Copy, Counts, Driver, Failure, Refusal, START};
+
+/// A record with a header.
+fn record(kind: u16, payload: &[u8]) -> Vec<u8> {
+    let length = payload.len() as u16;
+    [&length.to_le_bytes()[..], &kind.to_le_bytes(), payload].concat()
+}
+
+/// Numbers as bytes.
+fn bytes(numbers: &[u16]) -> Vec<u8> {
+    numbers.iter().flat_map(|n| n.to_le_bytes()).collect()
+}
+
+/// A table: a byte for each condition, the two lists of each event, the start.
+fn table(conditions: &[u8], events: &[(Vec<u16>, Vec<u16>)], start: &[u16]) -> Vec<u8> {
+    let mut all = record(1, conditions);
+    for (pre, post) in events {
+        let counts = [pre.len() as u16, post.len() as u16];
+        all.extend(record(2, &bytes(&[&counts[..], pre, post].concat())));
+    }
+    all.extend(record(3, &bytes(start)));
+    all
+}
+
+fn net_a(start: &[u16]) -> Vec<u8> {
+    let events = [
+        (vec![0], vec![1, 2]),
+        (vec![1, 2], vec![3]),
+        (vec![3], vec![1]),
+    ];
+    table(&[0, 0, 1, 0], &events, start)
+}
+
+fn net_b() -> Vec<u8> {
+    table(&[0, 1], &[(vec![0], vec![0, 1]), (vec![1], vec![])], &[0])
+}
+
+fn net_e(start: &[u16]) -> Vec<u8> {
+    let events = [(vec![0], vec![2]), (vec![1], vec![2]), (vec![2], vec![])];
+    table(&[0, 0, 1], &events, start)
+}
+
+fn net_d() -> Vec<u8> {
+    let mut events: Vec<_> = (0..10).map(|k| (vec![10 + k], vec![k])).collect();
+    events.push(((0..10).collect(), vec![20]));
+    events.push((vec![20], vec![]));
+    let conditions = [vec![1; 10], vec![0; 11]].concat();
+    table(&conditions, &events, &(10..20).collect::<Vec<u16>>())
+}
+
+/// The table of 65,535 unfolded events, and what may be added to it.
+fn limit(more_conditions: &[u8], more_events: &[(Vec<u16>, Vec<u16>)]) -> Vec<u8> {
+    let mut events: Vec<_> = (0..15).map(|k| (vec![], vec![k])).collect();
+    events.extend((4..=15).rev().map(|n| ((0..n).collect(), vec![])));
+    events.extend_from_slice(more_events);
+    table(&[&[1; 15], more_conditions].concat(), &events, &[])
+}
+
+fn driver() -> Driver {
+    Driver::open().expect("DOVETRELLIS_DRIVER names the driver, as .ci/run does")
+}
+
+fn refused<T>(number: u64, place: u64) -> Answer<T> {
+    Err(Failure::Refused(Refusal { number, place }))
+}
+
+/// The conditions that hold in a marking.
+fn held(marking: &[u8]) -> Vec<usize> {
+    (0..marking.len()).filter(|b| marking[*b] == 1).collect()
+}
+
+/// The lifted run of a run.
+fn lifted(driver: &mut Driver, table: &[u8], run: &[u16]) -> Answer<Vec<u16>> {
+    let mut output = vec![0; run.len()];
+    driver.lift(table, run, &mut output)?;
+    Ok(output)
+}
+
+/// What holds at the end of the lifted run of a run.
+fn lifted_end(driver: &mut Driver, table: &[u8], run: &[u16]) -> Answer<Vec<usize>> {
+    let conditions = driver.unfolded_counts(table)?.conditions;
+    let mut output = vec![0; conditions as usize];
+    driver.lift_end(table, run, &mut output)?;
+    Ok(held(&output))
+}
+
+#[test]
+fn net_a_is_judged_and_played() {
+    let (mut driver, table) = (driver(), net_a(&[0]));
+    assert_eq!(table.len(), 54);
+    assert_eq!(driver.judge(&table), Ok(()));
+    assert_eq!(driver.judge(&table[..53]), refused(1, 48));
+    let counts = Counts {
+        conditions: 4,
+        events: 3,
+    };
+    assert_eq!(driver.counts(&table), Ok(counts));
+    assert_eq!(whole(1, |out| driver.pre(&table, 1, out)), Ok(vec![1, 2]));
+    assert_eq!(whole(1, |out| driver.post(&table, 0, out)), Ok(vec![1, 2]));
+    assert_eq!(driver.pre(&table, 3, &mut []), refused(10, 0));
+    let mut marking = [9; 4];
+    assert_eq!(driver.start(&table, &mut marking), Ok(()));
+    assert_eq!(marking, [1, 0, 0, 0]);
+    assert_eq!(driver.can_fire(&table, &marking, 0), Ok(()));
+    assert_eq!(driver.fire(&table, &mut marking, 0), Ok(()));
+    assert_eq!(marking, [0, 1, 1, 0]);
+    assert_eq!(driver.fire(&table, &mut [1, 1, 0, 0], 0), refused(12, 0));
+    assert_eq!(driver.fire(&table, &mut [0, 1, 0, 0], 1), refused(11, 0));
+    assert_eq!(driver.fire(&table, &mut [0, 1, 0], 1), refused(18, 4));
+    let mut end = [9; 5];
+    assert_eq!(driver.replay(&table, &[0, 1, 2, 1], &mut end), Ok(()));
+    assert_eq!(end, [0, 0, 1, 1, 9]);
+}
+
+#[test]
+fn net_a_is_unfolded() {
+    let (mut driver, table) = (driver(), net_a(&[0]));
+    let counts = Counts {
+        conditions: 5,
+        events: 4,
+    };
+    assert_eq!(driver.unfolded_counts(&table), Ok(counts));
+    let lists = [
+        (vec![0], vec![1, 3]),
+        (vec![1, 2], vec![2, 4]),
+        (vec![1, 3], vec![3, 4]),
+        (vec![4], vec![1]),
+    ];
+    for (number, (pre, post)) in (0..).zip(lists) {
+        assert_eq!(
+            whole(0, |out| driver.unfolded_pre(&table, number, out)),
+            Ok(pre)
+        );
+        assert_eq!(
+            whole(0, |out| driver.unfolded_post(&table, number, out)),
+            Ok(post)
+        );
+    }
+    for number in 0..4 {
+        let mut markers = [0; 16];
+        let origin = driver.event_origin(&table, number, &mut markers).unwrap();
+        let markers = &markers[..origin.count];
+        assert_eq!(
+            driver.event_number(&table, origin.event, markers),
+            Ok(number)
+        );
+    }
+    for number in 0..5 {
+        let origin = driver.condition_origin(&table, number).unwrap();
+        assert_eq!(driver.condition_number(&table, origin), Ok(number));
+    }
+    let copy = ConditionOrigin {
+        condition: 2,
+        copy: Some(Copy {
+            marker: START,
+            user: 1,
+        }),
+    };
+    assert_eq!(driver.condition_origin(&table, 2), Ok(copy));
+    let mut marking = [9; 5];
+    assert_eq!(driver.unfolded_start(&table, &mut marking), Ok(()));
+    assert_eq!(marking, [1, 0, 0, 0, 0]);
+    assert_eq!(driver.unfolded_fire(&table, &mut marking, 0), Ok(()));
+    assert_eq!(marking, [0, 1, 0, 1, 0]);
+}
+
+#[test]
+fn net_a_is_lifted_and_projected() {
+    let (mut driver, table) = (driver(), net_a(&[0]));
+    let run = [0, 1, 2, 1];
+    assert_eq!(lifted(&mut driver, &table, &run), Ok(vec![0, 2, 3, 2]));
+    assert_eq!(lifted_end(&mut driver, &table, &run), Ok(vec![3, 4]));
+    let (mut back, mut end) = ([9; 4], [9; 5]);
+    assert_eq!(driver.project(&table, &[0, 2, 3, 2], &mut back), Ok(()));
+    assert_eq!(back, run);
+    assert_eq!(
+        driver.unfolded_replay(&table, &[0, 2, 3, 2], &mut end),
+        Ok(())
+    );
+    assert_eq!(end, [0, 0, 0, 1, 1]);
+    let other = net_a(&[0, 2]);
+    assert_eq!(lifted(&mut driver, &other, &[0, 1]), Ok(vec![0, 1]));
+    assert_eq!(lifted_end(&mut driver, &other, &[0, 1]), Ok(vec![2, 3, 4]));
+}
+
+#[test]
+fn nets_b_and_c_do_not_lift_a_repeat() {
+    let mut driver = driver();
+    let net_c = table(&[1], &[(vec![0], vec![0])], &[0]);
+    let mut end = [9; 2];
+    assert_eq!(driver.replay(&net_b(), &[0, 0], &mut end), Ok(()));
+    assert_eq!(end, [1, 1]);
+    assert_eq!(lifted(&mut driver, &net_b(), &[0, 0]), refused(15, 1));
+    assert_eq!(lifted(&mut driver, &net_c, &[0]), Ok(vec![0]));
+    assert_eq!(lifted(&mut driver, &net_c, &[0, 0]), refused(15, 1));
+}
+
+#[test]
+fn net_e_is_exchanged() {
+    let mut driver = driver();
+    let mut run = [0, 1, 2];
+    assert_eq!(
+        driver.exchange(&net_e(&[0, 1]), &mut run, 0),
+        refused(17, 0)
+    );
+    let table = net_e(&[0, 1, 2]);
+    assert_eq!(driver.exchange(&table, &mut run, 0), Ok(()));
+    assert_eq!(run, [1, 0, 2]);
+    assert_eq!(lifted(&mut driver, &table, &run), Ok(vec![1, 0, 2]));
+    assert_eq!(
+        driver.exchange(&table, &mut run, u64::MAX),
+        refused(10, u64::MAX)
+    );
+    let table = net_e(&[0, 1]);
+    assert_eq!(lifted(&mut driver, &table, &[0, 1, 2]), Ok(vec![0, 1, 3]));
+    assert_eq!(lifted(&mut driver, &table, &[1, 0, 2]), Ok(vec![1, 0, 4]));
+    assert_eq!(lifted_end(&mut driver, &table, &[1, 0, 2]), Ok(vec![3, 4]));
+}
+
+#[test]
+fn net_d_needs_more_than_ten_bits() {
+    let (mut driver, table) = (driver(), net_d());
+    let counts = Counts {
+        conditions: 31,
+        events: 1_035,
+    };
+    assert_eq!(driver.unfolded_counts(&table), Ok(counts));
+    assert_eq!(driver.event_number(&table, 11, &[]), Ok(1_034));
+}
+
+#[test]
+fn the_limits_hold() {
+    let mut driver = driver();
+    let counts = driver.unfolded_counts(&limit(&[], &[])).unwrap();
+    assert_eq!(counts.events, 65_535);
+    let one_more = limit(&[0], &[(vec![], vec![15])]);
+    assert_eq!(driver.unfolded_counts(&one_more), refused(14, 0));
+    let idle = limit(&[1], &[(vec![], vec![15])]);
+    assert_eq!(driver.unfolded_counts(&idle), refused(13, 27));
+    let mut end = [9; 16];
+    assert_eq!(driver.replay(&idle, &[], &mut end), Ok(()));
+    assert_eq!(end, [0; 16]);
+    let mut run = vec![0; 4_097];
+    assert_eq!(driver.exchange(&idle, &mut run, 0), refused(3, 0));
+}
+
+#[test]
+fn records_are_read_and_written() {
+    let mut driver = driver();
+    let run = [0, 1, 2, 1];
+    let record = whole(0, |out| driver.write_run(&run, out)).unwrap();
+    assert_eq!(record, [8, 0, 4, 0, 0, 0, 1, 0, 2, 0, 1, 0]);
+    assert_eq!(
+        whole(0, |out| driver.read_run(&record, out)),
+        Ok(run.to_vec())
+    );
+    assert_eq!(driver.read_lifted(&record, &mut []), refused(2, 0));
+    let record = whole(0, |out| driver.write_lifted(&run, out)).unwrap();
+    assert_eq!(
+        whole(0, |out| driver.read_lifted(&record, out)),
+        Ok(run.to_vec())
+    );
+    assert_eq!(driver.write_lifted(&run, &mut [0; 11]), refused(16, 12));
+}
