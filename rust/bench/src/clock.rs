@@ -1,0 +1,39 @@
+//! Measuring: two ways of doing the same in turn, and the least time of each.
+
+use std::time::{Duration, Instant};
+
+/// How long one measurement lasts, at least.
+const LEAST: Duration = Duration::from_millis(4);
+
+/// How often each way is measured.
+const ROUNDS: usize = 15;
+
+/// The time of so many calls.
+fn timed(work: &mut dyn FnMut(), calls: u32) -> Duration {
+    let begun = Instant::now();
+    for _ in 0..calls {
+        work();
+    }
+    begun.elapsed()
+}
+
+/// How many calls make a measurement long enough.
+fn enough(work: &mut dyn FnMut()) -> u32 {
+    let mut calls = 1;
+    while timed(work, calls) < LEAST && calls < 1 << 20 {
+        calls *= 2;
+    }
+    calls
+}
+
+/// The least time of one call of each, in nanoseconds; they are measured in turn, so that what disturbs one disturbs the other.
+pub fn both(one: &mut dyn FnMut(), other: &mut dyn FnMut()) -> (f64, f64) {
+    let calls = (enough(one), enough(other));
+    let mut least = (f64::MAX, f64::MAX);
+    for _ in 0..ROUNDS {
+        let each = |time: Duration, calls: u32| time.as_nanos() as f64 / f64::from(calls);
+        least.0 = least.0.min(each(timed(one, calls.0), calls.0));
+        least.1 = least.1.min(each(timed(other, calls.1), calls.1));
+    }
+    least
+}

@@ -1,0 +1,164 @@
+//! The proved library through its C interface: the calls that are measured, over slices.
+
+/// What every call answers.
+#[repr(C)]
+#[derive(Clone, Copy, Debug, PartialEq, Eq)]
+pub struct Answer {
+    pub number: u64,
+    pub place: u64,
+}
+
+extern "C" {
+    fn dovetrellis_judge(table: *const u8, table_length: usize) -> Answer;
+    fn dovetrellis_fire(
+        table: *const u8,
+        table_length: usize,
+        marking: *mut u8,
+        marking_length: usize,
+        event: u16,
+    ) -> Answer;
+    fn dovetrellis_replay(
+        table: *const u8,
+        table_length: usize,
+        run: *const u16,
+        run_length: usize,
+        end: *mut u8,
+        end_length: usize,
+    ) -> Answer;
+    fn dovetrellis_lift(
+        table: *const u8,
+        table_length: usize,
+        run: *const u16,
+        run_length: usize,
+        out: *mut u16,
+        out_length: usize,
+    ) -> Answer;
+    fn dovetrellis_project(
+        table: *const u8,
+        table_length: usize,
+        lifted: *const u16,
+        lifted_length: usize,
+        out: *mut u16,
+        out_length: usize,
+    ) -> Answer;
+    fn dovetrellis_unfolded_pre(
+        table: *const u8,
+        table_length: usize,
+        unfolded: u16,
+        out: *mut u16,
+        out_length: usize,
+        count: *mut u64,
+    ) -> Answer;
+    fn dovetrellis_unfolded_post(
+        table: *const u8,
+        table_length: usize,
+        unfolded: u16,
+        out: *mut u16,
+        out_length: usize,
+        count: *mut u64,
+    ) -> Answer;
+    fn dovetrellis_unfolded_fire(
+        table: *const u8,
+        table_length: usize,
+        marking: *mut u8,
+        marking_length: usize,
+        unfolded: u16,
+    ) -> Answer;
+}
+
+// Safety, for every call below: pointers and lengths are those of slices, which do not overlap, and the header asks no more.
+
+pub fn judge(table: &[u8]) -> Answer {
+    unsafe { dovetrellis_judge(table.as_ptr(), table.len()) }
+}
+
+pub fn fire(table: &[u8], marking: &mut [u8], event: u16) -> Answer {
+    unsafe {
+        dovetrellis_fire(
+            table.as_ptr(),
+            table.len(),
+            marking.as_mut_ptr(),
+            marking.len(),
+            event,
+        )
+    }
+}
+
+pub fn replay(table: &[u8], run: &[u16], end: &mut [u8]) -> Answer {
+    unsafe {
+        dovetrellis_replay(
+            table.as_ptr(),
+            table.len(),
+            run.as_ptr(),
+            run.len(),
+            end.as_mut_ptr(),
+            end.len(),
+        )
+    }
+}
+
+pub fn lift(table: &[u8], run: &[u16], out: &mut [u16]) -> Answer {
+    unsafe {
+        dovetrellis_lift(
+            table.as_ptr(),
+            table.len(),
+            run.as_ptr(),
+            run.len(),
+            out.as_mut_ptr(),
+            out.len(),
+        )
+    }
+}
+
+pub fn project(table: &[u8], lifted: &[u16], out: &mut [u16]) -> Answer {
+    unsafe {
+        dovetrellis_project(
+            table.as_ptr(),
+            table.len(),
+            lifted.as_ptr(),
+            lifted.len(),
+            out.as_mut_ptr(),
+            out.len(),
+        )
+    }
+}
+
+pub fn unfolded_pre(table: &[u8], unfolded: u16, out: &mut [u16]) -> Answer {
+    let mut count = 0;
+    unsafe {
+        dovetrellis_unfolded_pre(
+            table.as_ptr(),
+            table.len(),
+            unfolded,
+            out.as_mut_ptr(),
+            out.len(),
+            &mut count,
+        )
+    }
+}
+
+pub fn unfolded_post(table: &[u8], unfolded: u16, out: &mut [u16]) -> Answer {
+    let mut count = 0;
+    unsafe {
+        dovetrellis_unfolded_post(
+            table.as_ptr(),
+            table.len(),
+            unfolded,
+            out.as_mut_ptr(),
+            out.len(),
+            &mut count,
+        )
+    }
+}
+
+pub fn unfolded_fire(table: &[u8], marking: &mut [u8], unfolded: u16) -> Answer {
+    unsafe {
+        dovetrellis_unfolded_fire(
+            table.as_ptr(),
+            table.len(),
+            marking.as_mut_ptr(),
+            marking.len(),
+            unfolded,
+        )
+    }
+}
