@@ -124,51 +124,54 @@ static bool kept(void) {
 #define LENT16 (uint16_t *)(void *)lent.bytes, lent.count / 2
 #define LENT32 (uint32_t *)(void *)lent.bytes, lent.count / 4
 
-/* Makes one call; the single values go in and come out as words. */
-static struct dovetrellis_answer call(uint64_t which, const uint64_t *asked, uint64_t *values) {
-    struct dovetrellis_answer a = {0, 0};
-    uint16_t n = (uint16_t)asked[0];
+/* Makes a call on a table and its game; the single values go in and come out as words. */
+static struct dovetrellis_answer call_table(uint64_t which, const uint64_t *asked, uint64_t *values) {
+    uint16_t event = (uint16_t)asked[0];
     switch (which) {
     case 0: return dovetrellis_judge(TABLE);
     case 1: return dovetrellis_counts(TABLE, &values[0], &values[1]);
-    case 2: return dovetrellis_pre(TABLE, n, LENT16, &values[0]);
-    case 3: return dovetrellis_post(TABLE, n, LENT16, &values[0]);
+    case 2: return dovetrellis_pre(TABLE, event, LENT16, &values[0]);
+    case 3: return dovetrellis_post(TABLE, event, LENT16, &values[0]);
     case 4: return dovetrellis_start(TABLE, LENT8);
-    case 5: return dovetrellis_can_fire(TABLE, GIVEN8, n);
-    case 6: return dovetrellis_fire(TABLE, GIVEN8, n);
+    case 5: return dovetrellis_can_fire(TABLE, GIVEN8, event);
+    case 6: return dovetrellis_fire(TABLE, GIVEN8, event);
     case 7: return dovetrellis_replay(TABLE, GIVEN16, LENT8);
     case 8: return dovetrellis_exchange(TABLE, GIVEN16, asked[0]);
+    default: _exit(2);
+    }
+}
+
+/* Makes a call that goes from a number of the unfolding to its origin, or back. */
+static struct dovetrellis_answer call_numbers(uint64_t which, const uint64_t *asked, uint64_t *values) {
+    struct dovetrellis_answer answer;
+    uint16_t number = (uint16_t)asked[0], first = (uint16_t)values[0], user = (uint16_t)values[3];
+    uint32_t marker = (uint32_t)values[2];
+    bool copy = values[1] != 0;
+    switch (which) {
+    case 10: answer = dovetrellis_event_origin(TABLE, number, LENT32, &first, &values[1]); break;
+    case 11: answer = dovetrellis_event_number(TABLE, number, GIVEN32, &first); break;
+    case 12:
+        answer = dovetrellis_condition_origin(TABLE, number, &first, &copy, &marker, &user);
+        values[1] = copy, values[2] = marker, values[3] = user;
+        break;
+    case 13:
+        answer = dovetrellis_condition_number(TABLE, number, asked[1] != 0, (uint32_t)asked[2], (uint16_t)asked[3], &first);
+        break;
+    default: _exit(2);
+    }
+    values[0] = first;
+    return answer;
+}
+
+/* Makes a call on the unfolding, on a run across, or on a record. */
+static struct dovetrellis_answer call_unfolding(uint64_t which, const uint64_t *asked, uint64_t *values) {
+    uint16_t unfolded = (uint16_t)asked[0];
+    switch (which) {
     case 9: return dovetrellis_unfolded_counts(TABLE, &values[0], &values[1]);
-    case 10: {
-        uint16_t event = (uint16_t)values[0];
-        a = dovetrellis_event_origin(TABLE, n, LENT32, &event, &values[1]);
-        values[0] = event;
-        return a;
-    }
-    case 11: {
-        uint16_t unfolded = (uint16_t)values[0];
-        a = dovetrellis_event_number(TABLE, n, GIVEN32, &unfolded);
-        values[0] = unfolded;
-        return a;
-    }
-    case 12: {
-        uint16_t condition = (uint16_t)values[0], user = (uint16_t)values[3];
-        bool copy = values[1] != 0;
-        uint32_t marker = (uint32_t)values[2];
-        a = dovetrellis_condition_origin(TABLE, n, &condition, &copy, &marker, &user);
-        values[0] = condition, values[1] = copy, values[2] = marker, values[3] = user;
-        return a;
-    }
-    case 13: {
-        uint16_t unfolded = (uint16_t)values[0];
-        a = dovetrellis_condition_number(TABLE, n, asked[1] != 0, (uint32_t)asked[2], (uint16_t)asked[3], &unfolded);
-        values[0] = unfolded;
-        return a;
-    }
-    case 14: return dovetrellis_unfolded_pre(TABLE, n, LENT16, &values[0]);
-    case 15: return dovetrellis_unfolded_post(TABLE, n, LENT16, &values[0]);
+    case 14: return dovetrellis_unfolded_pre(TABLE, unfolded, LENT16, &values[0]);
+    case 15: return dovetrellis_unfolded_post(TABLE, unfolded, LENT16, &values[0]);
     case 16: return dovetrellis_unfolded_start(TABLE, LENT8);
-    case 17: return dovetrellis_unfolded_fire(TABLE, GIVEN8, n);
+    case 17: return dovetrellis_unfolded_fire(TABLE, GIVEN8, unfolded);
     case 18: return dovetrellis_lift(TABLE, GIVEN16, LENT16);
     case 19: return dovetrellis_project(TABLE, GIVEN16, LENT16);
     case 20: return dovetrellis_lift_end(TABLE, GIVEN16, LENT8);
@@ -179,6 +182,12 @@ static struct dovetrellis_answer call(uint64_t which, const uint64_t *asked, uin
     case 25: return dovetrellis_write_lifted(GIVEN16, LENT8, &values[0]);
     default: _exit(2);
     }
+}
+
+static struct dovetrellis_answer call(uint64_t which, const uint64_t *asked, uint64_t *values) {
+    if (which < 9) return call_table(which, asked, values);
+    if (10 <= which && which < 14) return call_numbers(which, asked, values);
+    return call_unfolding(which, asked, values);
 }
 
 int main(void) {

@@ -50,11 +50,21 @@ impl Making<'_> {
         answer
     }
 
+    /// Writes the first of the single values.
+    fn values(&mut self, values: &[u64]) -> Answer<()> {
+        self.reply.values[..values.len()].copy_from_slice(values);
+        Ok(())
+    }
+
+    /// Writes a run by a call.
+    fn run(&mut self, call: impl FnOnce(&mut [u16]) -> Answer<usize>) -> Answer<()> {
+        self.lend_words(call).map(|_| ())
+    }
+
     /// Writes a part of the table as a list, and its count as the first value.
     fn list_part(&mut self, part: Answer<&[u8]>) -> Answer<()> {
         let list = words(part?);
-        self.reply.values[0] = self.lend_words(|out| write_answer(&list, out))? as u64;
-        Ok(())
+        self.list(|out| write_answer(&list, out))
     }
 
     /// Writes a list by a call, and its count as the first value.
@@ -84,8 +94,7 @@ impl Making<'_> {
         let mut output = double_words(&self.reply.lent);
         let count = write_answer(&markers, &mut output)?;
         self.reply.lent = double_word_bytes(&output);
-        self.reply.values[..2].copy_from_slice(&[u64::from(behind.event), count as u64]);
-        Ok(())
+        self.values(&[u64::from(behind.event), count as u64])
     }
 
     /// The values are what stands behind an unfolded condition; those of a copy stay where it is ordinary.
@@ -113,63 +122,69 @@ fn asked_condition(numbers: &[u64; 4]) -> UnfoldedCondition {
     }
 }
 
-/// Makes the call of a request on what is in the making.
-fn make(request: &Request, making: &mut Making) -> Answer<()> {
+/// Makes a call on a table and its game.
+fn make_table(request: &Request, making: &mut Making) -> Answer<()> {
     let table = making.table;
-    let number = request.numbers[0] as u16;
-    let given = || words(&request.given);
+    let event = request.numbers[0] as u16;
     match request.call {
         Call::Judge => calls::judge(table),
         Call::Counts => {
             let counts = calls::table_counts(table)?;
-            making.reply.values[..2]
-                .copy_from_slice(&[counts.conditions as u64, counts.events as u64]);
-            Ok(())
+            making.values(&[counts.conditions as u64, counts.events as u64])
         }
-        Call::Pre => making.list_part(calls::preconditions(table, number)),
-        Call::Post => making.list_part(calls::postconditions(table, number)),
+        Call::Pre => making.list_part(calls::preconditions(table, event)),
+        Call::Post => making.list_part(calls::postconditions(table, event)),
         Call::Start => calls::start(table, &mut making.reply.lent).map(|_| ()),
-        Call::CanFire => calls::has_concession(table, &request.given, number),
-        Call::Fire => calls::fire_event(table, &mut making.reply.given, number),
-        Call::Replay => calls::replay(table, &given(), &mut making.reply.lent).map(|_| ()),
-        Call::Exchange => making.exchange(request.numbers[0]),
+        Call::CanFire => calls::has_concession(table, &request.given, event),
+        Call::Fire => calls::fire_event(table, &mut making.reply.given, event),
+        Call::Replay => {
+            calls::replay(table, &words(&request.given), &mut making.reply.lent).map(|_| ())
+        }
+        _ => making.exchange(request.numbers[0]),
+    }
+}
+
+/// Makes a call on the unfolding.
+fn make_unfolding(request: &Request, making: &mut Making) -> Answer<()> {
+    let table = making.table;
+    let number = request.numbers[0] as u16;
+    match request.call {
         Call::UnfoldedCounts => {
             let counts = calls::unfolded_counts(table)?;
-            making.reply.values[..2]
-                .copy_from_slice(&[counts.conditions as u64, counts.events as u64]);
-            Ok(())
+            making.values(&[counts.conditions as u64, counts.events as u64])
         }
         Call::EventOrigin => making.event_origin(number),
         Call::EventNumber => {
             let markers = double_words(&request.given);
             let markers: Vec<Marker> = markers.into_iter().map(marker_of).collect();
-            making.reply.values[0] = u64::from(calls::event_number(table, number, &markers)?);
-            Ok(())
+            making.values(&[u64::from(calls::event_number(table, number, &markers)?)])
         }
         Call::ConditionOrigin => making.condition_origin(number),
         Call::ConditionNumber => {
             let asked = asked_condition(&request.numbers);
-            making.reply.values[0] = u64::from(calls::condition_number(table, &asked)?);
-            Ok(())
+            making.values(&[u64::from(calls::condition_number(table, &asked)?)])
         }
         Call::UnfoldedPre => making.list(|out| calls::unfolded_preconditions(table, number, out)),
         Call::UnfoldedPost => making.list(|out| calls::unfolded_postconditions(table, number, out)),
         Call::UnfoldedStart => calls::unfolded_start(table, &mut making.reply.lent).map(|_| ()),
-        Call::UnfoldedFire => calls::fire_unfolded(table, &mut making.reply.given, number),
-        Call::Lift => making
-            .lend_words(|out| calls::lift(table, &given(), out))
-            .map(|_| ()),
-        Call::Project => making
-            .lend_words(|out| calls::project(table, &given(), out))
-            .map(|_| ()),
-        Call::LiftEnd => calls::lifted_end(table, &given(), &mut making.reply.lent).map(|_| ()),
-        Call::UnfoldedReplay => {
-            calls::replay_unfolded(table, &given(), &mut making.reply.lent).map(|_| ())
-        }
+        _ => calls::fire_unfolded(table, &mut making.reply.given, number),
+    }
+}
+
+/// Makes a call on a run across, or on a record.
+fn make_run(request: &Request, making: &mut Making) -> Answer<()> {
+    let table = making.table;
+    let run = words(&request.given);
+    let lent = &mut making.reply.lent;
+    match request.call {
+        Call::Lift => making.run(|out| calls::lift(table, &run, out)),
+        Call::Project => making.run(|out| calls::project(table, &run, out)),
+        Call::LiftEnd => calls::lifted_end(table, &run, lent).map(|_| ()),
+        Call::UnfoldedReplay => calls::replay_unfolded(table, &run, lent).map(|_| ()),
         Call::ReadRun => making.list(|out| read_run(&request.given, out)),
         Call::ReadLifted => making.list(|out| read_lifted(&request.given, out)),
-        Call::WriteRun => making.bytes(|out| write_run(&given(), out)),
-        Call::WriteLifted => making.bytes(|out| write_lifted(&given(), out)),
+        Call::WriteRun => making.bytes(|out| write_run(&run, out)),
+        _ => making.bytes(|out| write_lifted(&run, out)),
     }
 }
 
@@ -186,7 +201,12 @@ pub fn expected(request: &Request) -> Reply {
             lent: request.lent.clone(),
         },
     };
-    if let Err(refusal) = make(request, &mut making) {
+    let made = match request.call {
+        call if call <= Call::Exchange => make_table(request, &mut making),
+        call if call <= Call::UnfoldedFire => make_unfolding(request, &mut making),
+        _ => make_run(request, &mut making),
+    };
+    if let Err(refusal) = made {
         making.reply.number = u64::from(refusal.number);
         making.reply.place = refusal.place as u64;
     }

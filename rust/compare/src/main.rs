@@ -8,7 +8,7 @@ use std::time::Instant;
 
 use compare::case::case;
 use compare::expected::expected;
-use compare::tally::Tally;
+use compare::tally::{Sizes, Tally};
 use second::generator::Random;
 use wire::{Driver, Reply, Request};
 
@@ -17,6 +17,9 @@ const BATCH: u64 = 256;
 
 /// From so many cases on, each call must have come to every outcome that the header lists.
 const LONG: u64 = 100_000;
+
+/// After so many cases each, a line tells how far it is.
+const TOLD: u64 = 500_000;
 
 /// The differences that are shown; further ones are counted.
 const SHOWN: u64 = 5;
@@ -137,46 +140,65 @@ fn maker(wanted: &Wanted, first: u64, step: u64) -> Receiver<Vec<Case>> {
     from
 }
 
-/// Compares all cases and tells what was seen; true if nothing differed or was missed.
+/// What has been compared so far.
+#[derive(Default)]
+struct Compared {
+    tally: Tally,
+    sizes: Sizes,
+    cases: u64,
+    differences: u64,
+}
+
+impl Compared {
+    /// Asks the driver for the cases of a batch, and counts and shows what differs.
+    fn take(&mut self, batch: &[Case], driver: &mut Driver) -> std::io::Result<()> {
+        let requests: Vec<Request> = batch.iter().map(|case| case.request.clone()).collect();
+        for (case, got) in batch.iter().zip(driver.ask_all(&requests)?) {
+            self.tally.count(&case.request, &case.expected);
+            self.sizes.count(&case.request, &case.expected);
+            self.cases += 1;
+            if got != case.expected {
+                self.differences += 1;
+                if self.differences <= SHOWN {
+                    println!("difference in {}", case_text(case, &got));
+                }
+            }
+            if self.cases.is_multiple_of(TOLD) {
+                eprintln!("{} cases, {} differences", self.cases, self.differences);
+            }
+        }
+        Ok(())
+    }
+
+    /// Prints what was seen; true if nothing differed and nothing was missed.
+    fn told(&self, wanted: &Wanted, seconds: f64) -> bool {
+        let (missed, unlisted) = (self.tally.missed(), self.tally.unlisted());
+        print!("{}{}", self.tally.table(), self.sizes.text());
+        missed
+            .iter()
+            .chain(&unlisted)
+            .for_each(|what| println!("{what}"));
+        let (cases, differences) = (self.cases, self.differences);
+        let seed = wanted.seed;
+        println!("seed {seed}: {cases} cases in {seconds:.1} s, {differences} differences");
+        let seen = unlisted.is_empty() && (wanted.cases < LONG || missed.is_empty());
+        cases == wanted.cases && differences == 0 && seen
+    }
+}
+
+/// Compares all cases, which threads make meanwhile, and tells what was seen.
 fn compare_all(wanted: &Wanted, driver: &mut Driver) -> std::io::Result<bool> {
     let begun = Instant::now();
     let threads = thread::available_parallelism().map_or(1, |n| n.get().min(4)) as u64;
     let makers: Vec<_> = (0..threads).map(|n| maker(wanted, n, threads)).collect();
-    let (mut tally, mut done, mut differences) = (Tally::default(), 0, 0);
-    'all: loop {
-        for made in &makers {
-            let Ok(batch) = made.recv() else {
-                break 'all;
-            };
-            let requests: Vec<Request> = batch.iter().map(|case| case.request.clone()).collect();
-            for (case, got) in batch.iter().zip(driver.ask_all(&requests)?) {
-                tally.count(&case.request, &case.expected);
-                if got != case.expected {
-                    differences += 1;
-                    if differences <= SHOWN {
-                        println!("difference in {}", case_text(case, &got));
-                    }
-                }
-            }
-            done += batch.len() as u64;
-            if done / 500_000 != (done - batch.len() as u64) / 500_000 {
-                eprintln!("{done} cases, {differences} differences");
-            }
-        }
+    let mut compared = Compared::default();
+    for made in makers.iter().cycle() {
+        let Ok(batch) = made.recv() else {
+            break;
+        };
+        compared.take(&batch, driver)?;
     }
-    print!("{}", tally.table());
-    let (missed, unlisted) = (tally.missed(), tally.unlisted());
-    missed
-        .iter()
-        .chain(&unlisted)
-        .for_each(|what| println!("{what}"));
-    println!(
-        "seed {}: {done} cases in {:.1} s, {differences} differences",
-        wanted.seed,
-        begun.elapsed().as_secs_f64()
-    );
-    let seen = wanted.cases < LONG || missed.is_empty();
-    Ok(done == wanted.cases && differences == 0 && seen && unlisted.is_empty())
+    Ok(compared.told(wanted, begun.elapsed().as_secs_f64()))
 }
 
 /// Compares one case and shows it.

@@ -112,3 +112,52 @@ impl Tally {
         self.seen.keys().filter(listed).map(told).collect()
     }
 }
+
+/// How large what was asked and answered came to be.
+#[derive(Default)]
+pub struct Sizes {
+    table: usize,
+    given: usize,
+    lent: usize,
+    long_runs: u64,
+    large_tables: u64,
+    large_unfoldings: u64,
+}
+
+impl Sizes {
+    /// Counts a case: only calls that worked count as long or large.
+    pub fn count(&mut self, request: &Request, reply: &Reply) {
+        self.table = self.table.max(request.table.len());
+        self.given = self.given.max(request.given.len());
+        self.lent = self.lent.max(request.lent.len());
+        let worked = reply.number == 0;
+        let on_run = [
+            Call::Replay,
+            Call::Exchange,
+            Call::Lift,
+            Call::LiftEnd,
+            Call::Project,
+            Call::UnfoldedReplay,
+        ];
+        let long = on_run.contains(&request.call) && request.given.len() > 2 * 4_000;
+        let unfolded = request.call == Call::UnfoldedCounts;
+        let large = reply.values[..2].iter().any(|count| *count > 60_000);
+        self.long_runs += u64::from(worked && long);
+        self.large_tables += u64::from(worked && request.table.len() > 60_000);
+        self.large_unfoldings += u64::from(worked && unfolded && large);
+    }
+
+    /// The sizes as lines.
+    pub fn text(&self) -> String {
+        format!(
+            "largest: table {} bytes, given {} bytes, lent {} bytes\n\
+             worked: {} on runs of over 4,000 steps, {} on tables of over 60,000 bytes, {} counted over 60,000 unfolded\n",
+            self.table,
+            self.given,
+            self.lent,
+            self.long_runs,
+            self.large_tables,
+            self.large_unfoldings
+        )
+    }
+}

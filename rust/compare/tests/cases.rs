@@ -1,0 +1,80 @@
+//! The generated cases themselves: repeatable, of every call, with outputs of every length; and replies that can differ.
+
+use std::collections::BTreeSet;
+
+use compare::case::case;
+use compare::expected::expected;
+use second::generator::Random;
+use wire::{Call, Request};
+
+/// The seeds of some thousand cases.
+fn seeds() -> impl Iterator<Item = u64> {
+    (0..4_000).map(|n| Random::new(n).draw())
+}
+
+/// Net A's table.
+fn net_a() -> Vec<u8> {
+    vec![
+        4, 0, 1, 0, 0, 0, 1, 0, 10, 0, 2, 0, 1, 0, 2, 0, 0, 0, 1, 0, 2, 0, 10, 0, 2, 0, 2, 0, 1, 0,
+        1, 0, 2, 0, 3, 0, 8, 0, 2, 0, 1, 0, 1, 0, 3, 0, 1, 0, 2, 0, 3, 0, 0, 0,
+    ]
+}
+
+#[test]
+fn a_seed_gives_one_case() {
+    for seed in seeds().take(200) {
+        assert_eq!(case(seed), case(seed), "seed {seed}");
+    }
+}
+
+#[test]
+fn every_call_comes() {
+    let seen: BTreeSet<Call> = seeds().map(|seed| case(seed).call).collect();
+    assert_eq!(seen.len(), Call::ALL.len());
+}
+
+#[test]
+fn outputs_come_exact_short_and_longer() {
+    let (mut exact, mut short, mut longer) = (0, 0, 0);
+    for request in seeds()
+        .map(case)
+        .filter(|request| request.call == Call::Lift)
+    {
+        let (steps, lent) = (request.given.len(), request.lent.len());
+        match expected(&request).number {
+            0 if lent == steps => exact += 1,
+            0 => longer += 1,
+            16 if lent + 2 == steps => short += 1,
+            _ => {}
+        }
+    }
+    assert!(
+        exact > 20 && short > 5 && longer > 20,
+        "{exact} {short} {longer}"
+    );
+}
+
+#[test]
+fn a_lift_of_net_a_is_expected() {
+    let mut request = Request::new(Call::Lift, &net_a());
+    request.given = vec![0, 0, 1, 0, 2, 0, 1, 0];
+    request.lent = vec![9; 10];
+    let reply = expected(&request);
+    assert_eq!((reply.number, reply.place, reply.kept), (0, 0, true));
+    assert_eq!(reply.lent, [0, 0, 2, 0, 3, 0, 2, 0, 9, 9]);
+    assert_eq!(reply.given, request.given);
+}
+
+#[test]
+fn a_refusal_is_expected_to_leave_everything() {
+    let mut request = Request::new(Call::EventOrigin, &net_a());
+    request.numbers[0] = 2;
+    request.values = [7, 8, 0, 0];
+    let reply = expected(&request);
+    assert_eq!((reply.number, reply.place), (16, 1));
+    assert_eq!(reply.values, request.values);
+    request.lent = vec![5; 8];
+    let reply = expected(&request);
+    assert_eq!((reply.number, reply.values), (0, [1, 1, 0, 0]));
+    assert_eq!(reply.lent, [0, 0, 0, 0, 5, 5, 5, 5]);
+}
