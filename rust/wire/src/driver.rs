@@ -70,8 +70,14 @@ impl Driver {
         replies.pop().ok_or_else(|| trouble("no reply".to_string()))
     }
 
-    /// Makes many calls; their requests go out while replies come in.
+    /// Makes many calls; their requests go out while replies come in. After an error the driver has ended.
     pub fn ask_all(&mut self, requests: &[Request]) -> io::Result<Vec<Reply>> {
+        let asked = self.exchanged(requests);
+        asked.map_err(|error| self.lost(error))
+    }
+
+    /// Sends requests and receives their replies.
+    fn exchanged(&mut self, requests: &[Request]) -> io::Result<Vec<Reply>> {
         let Driver {
             requests: to,
             replies: from,
@@ -92,6 +98,15 @@ impl Driver {
                 sent.map_err(|_| trouble("the sender stopped".to_string()))??;
                 replies
             }),
+        }
+    }
+
+    /// Ends a driver that broke off, and tells how it ended.
+    fn lost(&mut self, error: io::Error) -> io::Error {
+        self.requests.take();
+        match self.child.wait() {
+            Ok(status) if !status.success() => trouble(format!("it broke off ({status})")),
+            _ => error,
         }
     }
 }
