@@ -70,8 +70,13 @@ impl Driver {
         replies.pop().ok_or_else(|| trouble("no reply".to_string()))
     }
 
-    /// Makes many calls; their requests go out while replies come in. After an error the driver has ended.
+    /// Makes many calls; their requests go out while replies come in. After an error of the pipes the driver has ended.
     pub fn ask_all(&mut self, requests: &[Request]) -> io::Result<Vec<Reply>> {
+        if !requests.iter().all(Request::fits) {
+            return Err(trouble(
+                "a request is larger than the driver takes".to_string(),
+            ));
+        }
         let asked = self.exchanged(requests);
         asked.map_err(|error| self.lost(error))
     }
@@ -84,7 +89,9 @@ impl Driver {
             held,
             ..
         } = self;
-        let to = to.as_mut().ok_or_else(|| trouble("ended".to_string()))?;
+        let to = to
+            .as_mut()
+            .ok_or_else(|| trouble("the driver has ended".to_string()))?;
         match requests {
             [one] => {
                 send_all(to, held, requests)?;
@@ -105,7 +112,7 @@ impl Driver {
     fn lost(&mut self, error: io::Error) -> io::Error {
         self.requests.take();
         match self.child.wait() {
-            Ok(status) if !status.success() => trouble(format!("it broke off ({status})")),
+            Ok(status) if !status.success() => trouble(format!("the driver broke off ({status})")),
             _ => error,
         }
     }

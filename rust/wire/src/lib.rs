@@ -39,7 +39,7 @@ impl fmt::Display for Failure {
     fn fmt(&self, f: &mut fmt::Formatter) -> fmt::Result {
         match self {
             Failure::Refused(Refusal { number, place }) => write!(f, "refused {number} at {place}"),
-            Failure::Lost(what) => write!(f, "the driver: {what}"),
+            Failure::Lost(what) => write!(f, "{what}"),
         }
     }
 }

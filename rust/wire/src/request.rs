@@ -102,7 +102,7 @@ pub struct Reply {
 }
 
 /// The most bytes of a table and of either other piece that the driver takes.
-pub const MOST_BYTES: usize = 1 << 22;
+const MOST_BYTES: usize = 1 << 22;
 
 /// Stands for the length of the table where it is that of the request before.
 const SAME: u64 = u64::MAX;
@@ -120,14 +120,14 @@ impl Request {
         }
     }
 
+    /// The driver has room for the request.
+    pub(crate) fn fits(&self) -> bool {
+        let pieces = [&self.table, &self.given, &self.lent];
+        pieces.iter().all(|piece| piece.len() <= MOST_BYTES)
+    }
+
     /// Writes the request; the table is left out where it is the one that the driver holds.
     pub(crate) fn send(&self, to: &mut impl Write, held: bool) -> io::Result<()> {
-        let pieces = [&self.table, &self.given, &self.lent];
-        if pieces.iter().any(|piece| piece.len() > MOST_BYTES) {
-            return Err(io::Error::other(
-                "the request is larger than the driver takes",
-            ));
-        }
         let table = if held { SAME } else { self.table.len() as u64 };
         let mut words = vec![self.call as u64, table];
         words.extend([self.given.len() as u64, self.lent.len() as u64]);
