@@ -5,8 +5,9 @@ use std::time::{Duration, Instant};
 /// How long one measurement lasts, at least.
 const LEAST: Duration = Duration::from_millis(4);
 
-/// How often each way is measured.
+/// How often each way is measured, and after how long it is enough even with fewer rounds.
 const ROUNDS: usize = 15;
+const LONGEST: Duration = Duration::from_secs(2);
 
 /// The time of so many calls.
 fn timed(work: &mut dyn FnMut(), calls: u32) -> Duration {
@@ -30,7 +31,11 @@ fn enough(work: &mut dyn FnMut()) -> u32 {
 pub fn both(one: &mut dyn FnMut(), other: &mut dyn FnMut()) -> (f64, f64) {
     let calls = (enough(one), enough(other));
     let mut least = (f64::MAX, f64::MAX);
-    for _ in 0..ROUNDS {
+    let begun = Instant::now();
+    for round in 0..ROUNDS {
+        if round > 2 && begun.elapsed() > LONGEST {
+            break;
+        }
         let each = |time: Duration, calls: u32| time.as_nanos() as f64 / f64::from(calls);
         least.0 = least.0.min(each(timed(one, calls.0), calls.0));
         least.1 = least.1.min(each(timed(other, calls.1), calls.1));

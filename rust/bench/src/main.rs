@@ -185,7 +185,7 @@ fn ratios(calls: &[Call], inputs: &[Input]) {
             let Measured { library, second } = call(input);
             let over = if library > second { " (over 1)" } else { "" };
             println!(
-                "| {name} | {} | {} | {} | {:.3}{over} |",
+                "| {name} | {} | {} | {} | {:.4}{over} |",
                 input.name,
                 time_text(library),
                 time_text(second),
@@ -241,7 +241,7 @@ fn growth(calls: &[Call], inputs: &[(usize, Input)]) {
         for (size, input) in inputs {
             let Measured { library, second } = call(input);
             println!(
-                "| {name} | {size} | {} | {:.1} ns | {} | {:.3} |",
+                "| {name} | {size} | {} | {:.1} ns | {} | {:.4} |",
                 time_text(library),
                 library / *size as f64,
                 time_text(second),
@@ -289,6 +289,7 @@ fn main() {
         net_a(),
         typical(500),
         wide(),
+        full(256, 4_096),
         most_events(),
         most_conditions(),
     ];
