@@ -1,6 +1,8 @@
-//! Measuring: two ways of doing the same in turn, and the least time of each.
+//! Measuring: two ways of doing the same in turn, and the least processor time of each.
 
 use std::time::{Duration, Instant};
+
+use crate::processor;
 
 /// How long one measurement lasts, at least.
 const LEAST: Duration = Duration::from_millis(4);
@@ -11,11 +13,11 @@ const LONGEST: Duration = Duration::from_secs(2);
 
 /// The time of so many calls.
 fn timed(work: &mut dyn FnMut(), calls: u32) -> Duration {
-    let begun = Instant::now();
+    let begun = processor::time();
     for _ in 0..calls {
         work();
     }
-    begun.elapsed()
+    processor::time() - begun
 }
 
 /// How many calls make a measurement long enough.

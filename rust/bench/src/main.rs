@@ -5,6 +5,8 @@ mod clock;
 mod inputs;
 #[allow(unsafe_code)]
 mod library;
+#[allow(unsafe_code)]
+mod processor;
 
 use std::hint::black_box;
 
