@@ -441,6 +441,11 @@ fn ask_record(random: &mut Random, request: &mut Request) {
     }
 }
 
+/// The call of a seed's case.
+pub fn call_of(seed: u64) -> Call {
+    any_call(&mut Random::new(seed))
+}
+
 /// The case of a seed.
 pub fn case(seed: u64) -> Request {
     let mut random = Random::new(seed);

@@ -1,16 +1,16 @@
 //! Compares the proved library, asked over the driver, with the second implementation:
-//! `compare [--cases N] [--seed S]`, or `compare --case SEED` for one case alone.
+//! `compare [--cases N] [--seed S] [--call NAME]`, or `compare --case SEED` for one case alone.
 
 use std::process::ExitCode;
 use std::sync::mpsc::{sync_channel, Receiver};
 use std::thread;
 use std::time::Instant;
 
-use compare::case::case;
+use compare::case::{call_of, case};
 use compare::expected::expected;
 use compare::tally::{Sizes, Tally};
 use second::generator::Random;
-use wire::{Driver, Reply, Request};
+use wire::{Call, Driver, Reply, Request};
 
 /// The cases that are sent to the driver at once.
 const BATCH: u64 = 256;
@@ -31,6 +31,7 @@ const SHOWN_BYTES: usize = 600;
 struct Wanted {
     cases: u64,
     seed: u64,
+    call: Option<Call>,
     one: Option<u64>,
 }
 
@@ -39,15 +40,17 @@ fn wanted() -> Option<Wanted> {
     let mut wanted = Wanted {
         cases: 200_000,
         seed: 2026,
+        call: None,
         one: None,
     };
     let mut words = std::env::args().skip(1);
     while let Some(word) = words.next() {
-        let number = words.next()?.parse().ok()?;
+        let value = words.next()?;
         match word.as_str() {
-            "--cases" => wanted.cases = number,
-            "--seed" => wanted.seed = number,
-            "--case" => wanted.one = Some(number),
+            "--cases" => wanted.cases = value.parse().ok()?,
+            "--seed" => wanted.seed = value.parse().ok()?,
+            "--call" => wanted.call = Some(Call::by_name(&value)?),
+            "--case" => wanted.one = Some(value.parse().ok()?),
             _ => return None,
         }
     }
@@ -72,9 +75,15 @@ fn made(seed: u64) -> Case {
     }
 }
 
-/// The seed of a case by its place in the comparison.
-fn case_seed(seed: u64, place: u64) -> u64 {
-    Random::new(seed.wrapping_add(place.wrapping_mul(0xd134_2543_de82_ef95))).draw()
+/// The seed of a case by its place in the comparison; where one call is wanted, of a case of that call.
+fn case_seed(seed: u64, call: Option<Call>, place: u64) -> u64 {
+    let mut random = Random::new(seed.wrapping_add(place.wrapping_mul(0xd134_2543_de82_ef95)));
+    loop {
+        let drawn = random.draw();
+        if call.is_none_or(|call| call == call_of(drawn)) {
+            return drawn;
+        }
+    }
 }
 
 /// Bytes as text, cut where they are many.
@@ -125,12 +134,12 @@ fn case_text(case: &Case, got: &Reply) -> String {
 /// Starts a thread that makes every `step`-th batch from the first on.
 fn maker(wanted: &Wanted, first: u64, step: u64) -> Receiver<Vec<Case>> {
     let (to, from) = sync_channel(2);
-    let (cases, seed) = (wanted.cases, wanted.seed);
+    let (cases, seed, call) = (wanted.cases, wanted.seed, wanted.call);
     thread::spawn(move || {
         let mut place = first * BATCH;
         while place < cases {
             let places = place..cases.min(place + BATCH);
-            let batch = places.map(|at| made(case_seed(seed, at))).collect();
+            let batch = places.map(|at| made(case_seed(seed, call, at))).collect();
             if to.send(batch).is_err() {
                 return;
             }
@@ -172,7 +181,7 @@ impl Compared {
 
     /// Prints what was seen; true if nothing differed and nothing was missed.
     fn told(&self, wanted: &Wanted, seconds: f64) -> bool {
-        let (missed, unlisted) = (self.tally.missed(), self.tally.unlisted());
+        let (missed, unlisted) = (self.tally.missed(wanted.call), self.tally.unlisted());
         print!("{}{}", self.tally.table(), self.sizes.text());
         missed
             .iter()
@@ -213,7 +222,7 @@ fn compare_one(seed: u64, driver: &mut Driver) -> std::io::Result<bool> {
 
 fn main() -> ExitCode {
     let Some(wanted) = wanted() else {
-        eprintln!("usage: compare [--cases N] [--seed S], or compare --case SEED");
+        eprintln!("usage: compare [--cases N] [--seed S] [--call NAME], or compare --case SEED");
         return ExitCode::from(2);
     };
     let compared = Driver::open().and_then(|mut driver| match wanted.one {

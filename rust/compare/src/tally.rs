@@ -91,10 +91,11 @@ impl Tally {
         text
     }
 
-    /// The outcomes that no case came to, as text.
-    pub fn missed(&self) -> Vec<String> {
+    /// The outcomes that no case came to, of one call or of all, as text.
+    pub fn missed(&self, only: Option<Call>) -> Vec<String> {
         let mut missed = Vec::new();
-        for (call, name) in Call::ALL {
+        let wanted = |(call, _): &(Call, &str)| only.is_none_or(|only| only == *call);
+        for (call, name) in Call::ALL.into_iter().filter(wanted) {
             for outcome in outcomes(call) {
                 if !self.seen.contains_key(&(call, outcome)) {
                     let of = if outcome.1 { " of the run" } else { "" };

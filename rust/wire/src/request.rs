@@ -64,6 +64,12 @@ impl Call {
         (Call::WriteLifted, "write_lifted"),
     ];
 
+    /// The call of a name.
+    pub fn by_name(name: &str) -> Option<Call> {
+        let found = Call::ALL.into_iter().find(|call| call.1 == name);
+        found.map(|call| call.0)
+    }
+
     /// The call's name in the header, without the prefix.
     pub fn name(self) -> &'static str {
         Call::ALL[self as usize].1
