@@ -139,3 +139,19 @@ pub fn most_conditions() -> Input {
         (0..255).collect(),
     )
 }
+
+/// An event that marks 255 persistent conditions, of which each of 255 events reads eight: its unfolded list is as long as lists get.
+pub fn longest_list() -> Input {
+    let all: Vec<u16> = (0..255).collect();
+    let mut events = vec![event(&[], &all)];
+    events.extend((0..255).map(|first| {
+        let read: Vec<u16> = (first..first + 8).map(|b| b % 255).collect();
+        event(&read, &[])
+    }));
+    let net = Net {
+        persistent: vec![true; 255],
+        events,
+        start: Vec::new(),
+    };
+    input("65,281 unfolded events, a list of 2,040", &net, vec![0])
+}

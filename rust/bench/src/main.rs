@@ -10,7 +10,9 @@ mod processor;
 
 use std::hint::black_box;
 
-use inputs::{changeover, full, most_conditions, most_events, net_a, typical, wide, Input, Size};
+use inputs::{
+    changeover, full, longest_list, most_conditions, most_events, net_a, typical, wide, Input, Size,
+};
 use library::Answer;
 use second::calls;
 use second::refusal::Answer as Second;
@@ -130,10 +132,13 @@ fn last_lifted(input: &Input) -> u16 {
     lifted(input).last().copied().unwrap_or(0)
 }
 
+/// Room for the longest list.
+const LIST: usize = 2_048;
+
 fn unfolded_pre(input: &Input) -> Measured {
     let (table, number) = (&input.table, last_lifted(input));
     measured(
-        1024,
+        LIST,
         |out: &mut [u16]| library::unfolded_pre(table, number, out),
         |out| calls::unfolded_preconditions(table, number, out),
     )
@@ -142,7 +147,7 @@ fn unfolded_pre(input: &Input) -> Measured {
 fn unfolded_post(input: &Input) -> Measured {
     let (table, number) = (&input.table, last_lifted(input));
     measured(
-        1024,
+        LIST,
         |out: &mut [u16]| library::unfolded_post(table, number, out),
         |out| calls::unfolded_postconditions(table, number, out),
     )
@@ -294,6 +299,7 @@ fn main() {
         full(256, 4_096),
         most_events(),
         most_conditions(),
+        longest_list(),
     ];
     assert!(played.iter().all(plays) && unfolded.iter().all(lifts));
     head("The library against the second implementation", &columns);

@@ -120,6 +120,31 @@ fn power_net(random: &mut Random) -> Net {
     }
 }
 
+/// A net in which one event marks many persistent conditions, each with many users: its unfolded postconditions make the longest lists.
+fn broad_net(random: &mut Random) -> Net {
+    let (lasting, read) = (random.between(8, 200), random.between(1, 8));
+    let reader = |first: usize| Event {
+        preconditions: ascending(
+            (first..first + read)
+                .map(|b| (b % lasting) as u16)
+                .collect(),
+        ),
+        postconditions: Vec::new(),
+    };
+    let all: Vec<u16> = (0..=u16::MAX).take(lasting).collect();
+    let setter = Event {
+        preconditions: Vec::new(),
+        postconditions: all.clone(),
+    };
+    let mut events: Vec<Event> = (0..random.between(200, 255)).map(reader).collect();
+    events.insert(random.below(2) * events.len(), setter);
+    Net {
+        persistent: vec![true; lasting],
+        events,
+        start: all.into_iter().filter(|_| random.percent(20)).collect(),
+    }
+}
+
 /// A net with an event that touches nothing once unfolded.
 fn idle_net(random: &mut Random) -> Net {
     let mut net = small_net(random);
@@ -146,6 +171,7 @@ pub fn any_net(random: &mut Random) -> Net {
         962..=963 => started_limit_net(random),
         964..=966 => limit_net(random),
         967 => endless_net(),
+        968..=969 => broad_net(random),
         _ => power_net(random),
     }
 }
@@ -179,10 +205,12 @@ pub fn any_table(random: &mut Random) -> Asked {
     Asked { bytes, net }
 }
 
-/// A number of something of which there are so many: mostly one that is there, else the next, or one far off.
+/// A number of something of which there are so many: mostly one that is there, the ends more often, else the next, or one far off.
 pub fn any_number(random: &mut Random, count: usize) -> u16 {
     match random.below(100) {
-        0..=84 => word_below(random, count),
+        0..=74 => word_below(random, count),
+        75..=79 => 0,
+        80..=84 => (count as u16).wrapping_sub(1),
         85..=89 => count as u16,
         90..=91 => (count as u16).wrapping_add(1),
         92..=94 => word_below(random, count).wrapping_add(256 * (1 + word_below(random, 255))),
