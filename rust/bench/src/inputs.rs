@@ -140,7 +140,7 @@ pub fn most_conditions() -> Input {
     )
 }
 
-/// An event that marks 255 persistent conditions, of which each of 255 events reads eight: its unfolded list is as long as lists get.
+/// An event that marks 255 persistent conditions, of which each of 255 others reads eight: its unfolded list is as long as any.
 pub fn longest_list() -> Input {
     let all: Vec<u16> = (0..255).collect();
     let mut events = vec![event(&[], &all)];

@@ -1,5 +1,5 @@
-//! Measures the proved library and the second implementation on the same input in one run, and prints ratios. Nothing here passes or
-//! fails by time; each call's answers are compared once before it is measured.
+//! Measures the proved library and the second implementation on the same input in one run, and prints ratios. Nothing here passes
+//! or fails by time; each call's answers are compared once before it is measured.
 
 mod clock;
 mod inputs;
@@ -27,9 +27,9 @@ fn time_text(nanoseconds: f64) -> String {
 }
 
 /// Prints the head of a table.
-fn head(title: &str, columns: &[&str]) {
-    println!("\n## {title}\n\n| {} |", columns.join(" | "));
-    println!("|{}", "---|".repeat(columns.len()));
+fn head(title: &str, columns: &str) {
+    println!("\n## {title}\n\n| {columns} |");
+    println!("|{}", "---|".repeat(columns.split('|').count()));
 }
 
 /// Both implementations worked, or neither did, with the same refusal.
@@ -288,9 +288,8 @@ fn print_machine() {
     println!("archive: {archive}, {made}");
 }
 
-fn main() {
-    print_machine();
-    let columns = ["call", "input", "library", "second", "ratio"];
+/// Every measured call on small, typical and largest inputs.
+fn print_ratios() {
     let played = [net_a(), typical(500), wide(), full(256, 4_096)];
     let unfolded = [
         net_a(),
@@ -302,37 +301,35 @@ fn main() {
         longest_list(),
     ];
     assert!(played.iter().all(plays) && unfolded.iter().all(lifts));
-    head("The library against the second implementation", &columns);
+    head(
+        "The library against the second implementation",
+        "call | input | library | second | ratio",
+    );
     ratios(&PLAYED, &played);
     ratios(&UNFOLDED, &unfolded);
+}
 
+/// Judging on tables of growing size.
+fn print_judging() {
     head(
         "Judging against a sum of the same bytes",
-        &[
-            "bytes",
-            "judge",
-            "ns a byte",
-            "plain sum",
-            "ratio",
-            "sum in turn",
-            "ratio",
-        ],
+        "bytes | judge | ns a byte | plain sum | ratio | sum in turn | ratio",
     );
-    let sizes = [1, 4, 16, 64, 256];
     judge_and_sums(&[net_a(), typical(0)]);
-    judge_and_sums(&sizes.map(|events| full(events, 1)));
+    judge_and_sums(&[1, 4, 16, 64, 256].map(|events| full(events, 1)));
+}
 
-    let columns = ["call", "size", "library", "for one", "second", "ratio"];
-    head("Cost against steps of the run (typical table)", &columns);
+/// Calls on runs of growing length, and on unfoldings of growing size.
+fn print_growth() {
+    let columns = "call | size | library | for one | second | ratio";
+    head("Cost against steps of the run (typical table)", columns);
     let steps = [16, 64, 256, 1_024, 4_096].map(|steps| (steps, typical(steps)));
-    growth(
-        &[("replay", replay), ("lift", lift), ("project", project)],
-        &steps,
-    );
+    let calls: [Call; 3] = [("replay", replay), ("lift", lift), ("project", project)];
+    growth(&calls, &steps);
 
     head(
-        "Cost against unfolded events (20 conditions and a ring of 8, 64 steps)",
-        &columns,
+        "Cost against unfolded events (28 conditions, 64 steps)",
+        columns,
     );
     let sizes = [0, 2, 4, 6, 8, 10].map(|read| {
         let input = changeover(Size {
@@ -344,4 +341,11 @@ fn main() {
         (unfolded_events(&input), input)
     });
     growth(&UNFOLDED, &sizes);
+}
+
+fn main() {
+    print_machine();
+    print_ratios();
+    print_judging();
+    print_growth();
 }

@@ -120,7 +120,7 @@ fn power_net(random: &mut Random) -> Net {
     }
 }
 
-/// A net in which one event marks many persistent conditions, each with many users: its unfolded postconditions make the longest lists.
+/// A net in which one event marks many persistent conditions, each with many users: its unfolded list is among the longest.
 fn broad_net(random: &mut Random) -> Net {
     let (lasting, read) = (random.between(8, 200), random.between(1, 8));
     let reader = |first: usize| Event {

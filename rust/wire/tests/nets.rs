@@ -138,6 +138,11 @@ fn net_a_is_unfolded() {
             Ok(post)
         );
     }
+}
+
+#[test]
+fn net_a_is_numbered_both_ways() {
+    let (mut driver, table) = (driver(), net_a(&[0]));
     for number in 0..4 {
         let mut markers = [0; 16];
         let origin = driver.event_origin(&table, number, &mut markers).unwrap();
@@ -159,6 +164,11 @@ fn net_a_is_unfolded() {
         }),
     };
     assert_eq!(driver.condition_origin(&table, 2), Ok(copy));
+}
+
+#[test]
+fn net_a_is_played_unfolded() {
+    let (mut driver, table) = (driver(), net_a(&[0]));
     let mut marking = [9; 5];
     assert_eq!(driver.unfolded_start(&table, &mut marking), Ok(()));
     assert_eq!(marking, [1, 0, 0, 0, 0]);
