@@ -1,0 +1,288 @@
+//! The statements of a text, before names are looked up.
+
+use crate::tokens::{tokens, Piece, Token};
+use crate::trouble::{trouble, Place, Trouble};
+
+/// Words that begin a statement and so name nothing.
+const RESERVED: [&str; 3] = ["conditions", "start", "run"];
+
+/// What an element of a list is written as.
+#[derive(Clone, Debug, PartialEq, Eq)]
+pub enum Written {
+    Name(String),
+    Number(u16),
+    Range(u16, u16),
+}
+
+/// An element of a list, where it stands, and whether `[p]` follows it.
+#[derive(Clone, Debug, PartialEq, Eq)]
+pub struct Element {
+    pub written: Written,
+    pub persistent: bool,
+    pub place: Place,
+}
+
+/// A list of elements and where it begins.
+#[derive(Clone, Debug, PartialEq, Eq)]
+pub struct List {
+    pub elements: Vec<Element>,
+    pub place: Place,
+}
+
+/// A statement of a text.
+#[derive(Clone, Debug, PartialEq, Eq)]
+pub enum Statement {
+    Conditions(List),
+    Event(Element, List, List),
+    Start(Place, List),
+    Run(Place, Option<String>, List),
+}
+
+/// What an element may look like where it stands.
+#[derive(Clone, Copy, PartialEq, Eq)]
+enum Form {
+    Condition,
+    Reference,
+    Step,
+}
+
+impl Form {
+    /// What is expected of such an element.
+    fn told(self) -> &'static str {
+        match self {
+            Form::Condition | Form::Reference => "the name or number of a condition",
+            Form::Step => "the name or number of an event",
+        }
+    }
+}
+
+/// The tokens of a text and how far they are read.
+struct Parser {
+    tokens: Vec<Token>,
+    at: usize,
+}
+
+impl Parser {
+    /// The token that is so many further on; past the last one it is the end.
+    fn ahead(&self, by: usize) -> &Token {
+        let last = self.tokens.len() - 1;
+        &self.tokens[last.min(self.at + by)]
+    }
+
+    /// The next piece.
+    fn piece(&self) -> &Piece {
+        &self.ahead(0).piece
+    }
+
+    /// The place of the next piece.
+    fn place(&self) -> Place {
+        self.ahead(0).place
+    }
+
+    /// Takes the next piece if it is this one.
+    fn took(&mut self, piece: &Piece) -> bool {
+        let there = self.piece() == piece;
+        self.at += usize::from(there);
+        there
+    }
+
+    /// Takes ends of lines.
+    fn skip_lines(&mut self) {
+        while self.took(&Piece::LineEnd) {}
+    }
+
+    /// The trouble that the next piece is not what was expected.
+    fn unexpected<T>(&self, expected: &str) -> Result<T, Trouble> {
+        trouble(self.place(), expected, self.piece().told())
+    }
+
+    /// Takes this piece, or says that it was expected.
+    fn need(&mut self, piece: &Piece) -> Result<(), Trouble> {
+        if self.took(piece) {
+            Ok(())
+        } else {
+            self.unexpected(&piece.told())
+        }
+    }
+
+    /// A statement begins here: a reserved word, or a name or number with a colon.
+    fn at_statement(&self) -> bool {
+        match self.piece() {
+            Piece::Name(name) if RESERVED.contains(&name.as_str()) => true,
+            Piece::Name(_) | Piece::Number(_) => self.ahead(1).piece == Piece::Colon,
+            _ => false,
+        }
+    }
+
+    /// Takes a name that is not a reserved word.
+    fn name(&mut self, name: &str, expected: &str) -> Result<String, Trouble> {
+        if RESERVED.contains(&name) {
+            let found = format!("`{name}`, which begins a statement and so names nothing");
+            return trouble(self.place(), expected, found);
+        }
+        self.at += 1;
+        Ok(name.to_string())
+    }
+
+    /// Takes a name, a number or a range of numbers.
+    fn written(&mut self, expected: &str, range: bool) -> Result<Written, Trouble> {
+        match self.piece().clone() {
+            Piece::Name(name) => Ok(Written::Name(self.name(&name, expected)?)),
+            Piece::Number(first) => {
+                self.at += 1;
+                if !(range && self.took(&Piece::Through)) {
+                    return Ok(Written::Number(first));
+                }
+                match self.piece().clone() {
+                    Piece::Number(last) if first <= last => {
+                        self.at += 1;
+                        Ok(Written::Range(first, last))
+                    }
+                    _ => {
+                        self.unexpected(&format!("a number from {first} on, where the range ends"))
+                    }
+                }
+            }
+            _ => self.unexpected(expected),
+        }
+    }
+
+    /// Takes an element of a list.
+    fn element(&mut self, form: Form) -> Result<Element, Trouble> {
+        let place = self.place();
+        let written = self.written(form.told(), form != Form::Step)?;
+        let persistent = form == Form::Condition && self.took(&Piece::Persistent);
+        Ok(Element {
+            written,
+            persistent,
+            place,
+        })
+    }
+
+    /// Takes what separates two elements, a comma or ends of lines or both; false where there is nothing of it.
+    fn separated(&mut self) -> bool {
+        let before = self.at;
+        self.skip_lines();
+        self.took(&Piece::Comma);
+        self.skip_lines();
+        self.at > before
+    }
+
+    /// The last piece that was taken is the end of a line.
+    fn on_new_line(&self) -> bool {
+        self.at > 0 && self.tokens[self.at - 1].piece == Piece::LineEnd
+    }
+
+    /// Takes a list without braces, up to the end or to a line that begins a statement.
+    fn open_list(&mut self, form: Form) -> Result<List, Trouble> {
+        let place = self.place();
+        let mut elements: Vec<Element> = Vec::new();
+        self.skip_lines();
+        while *self.piece() != Piece::End && !(self.on_new_line() && self.at_statement()) {
+            let element = self.element(form)?;
+            let markable = form == Form::Condition && !element.persistent;
+            elements.push(element);
+            if !self.separated() && *self.piece() != Piece::End {
+                let mark = if markable { "`[p]`, " } else { "" };
+                return self.unexpected(&format!("{mark}`,` or the end of the line"));
+            }
+        }
+        Ok(List { elements, place })
+    }
+
+    /// Takes a list in braces.
+    fn set(&mut self) -> Result<List, Trouble> {
+        self.skip_lines();
+        let place = self.place();
+        self.need(&Piece::Open)?;
+        self.skip_lines();
+        let mut elements = Vec::new();
+        while !self.took(&Piece::Close) {
+            elements.push(self.element(Form::Reference)?);
+            if !self.separated() && *self.piece() != Piece::Close {
+                return self.unexpected("`,` or `}`");
+            }
+        }
+        Ok(List { elements, place })
+    }
+
+    /// Takes the end of a statement's line.
+    fn line_end(&mut self) -> Result<(), Trouble> {
+        match self.piece() {
+            Piece::End | Piece::LineEnd => Ok(()),
+            _ => self.unexpected("the end of the line"),
+        }
+    }
+
+    /// Takes the rest of a `run` statement.
+    fn run(&mut self, place: Place) -> Result<Statement, Trouble> {
+        let name = match self.piece().clone() {
+            Piece::Name(name) => Some(self.name(&name, "a name for the run, or `:`")?),
+            _ => None,
+        };
+        match name {
+            None if *self.piece() != Piece::Colon => self.unexpected("a name for the run, or `:`"),
+            _ => {
+                self.need(&Piece::Colon)?;
+                Ok(Statement::Run(place, name, self.open_list(Form::Step)?))
+            }
+        }
+    }
+
+    /// Takes an event: its name or number, and its two lists.
+    fn event(&mut self) -> Result<Statement, Trouble> {
+        let place = self.place();
+        let expected = "`conditions:`, `start:`, `run` or an event's name";
+        let written = self.written(expected, false)?;
+        let label = Element {
+            written,
+            persistent: false,
+            place,
+        };
+        self.need(&Piece::Colon)?;
+        let before = self.set()?;
+        self.skip_lines();
+        self.need(&Piece::Arrow)?;
+        let after = self.set()?;
+        self.line_end()?;
+        Ok(Statement::Event(label, before, after))
+    }
+
+    /// Takes a statement.
+    fn statement(&mut self) -> Result<Statement, Trouble> {
+        let place = self.place();
+        let word = match self.piece() {
+            Piece::Name(name) => name.clone(),
+            _ => String::new(),
+        };
+        if !RESERVED.contains(&word.as_str()) {
+            return self.event();
+        }
+        self.at += 1;
+        if word == "run" {
+            return self.run(place);
+        }
+        self.need(&Piece::Colon)?;
+        if word == "conditions" {
+            return Ok(Statement::Conditions(self.open_list(Form::Condition)?));
+        }
+        let list = self.set()?;
+        self.line_end()?;
+        Ok(Statement::Start(place, list))
+    }
+}
+
+/// The statements of a text, and the place where it ends.
+pub fn statements(text: &str) -> Result<(Vec<Statement>, Place), Trouble> {
+    let mut parser = Parser {
+        tokens: tokens(text)?,
+        at: 0,
+    };
+    let mut statements = Vec::new();
+    parser.skip_lines();
+    while *parser.piece() != Piece::End {
+        statements.push(parser.statement()?);
+        parser.skip_lines();
+    }
+    Ok((statements, parser.place()))
+}

@@ -1,0 +1,201 @@
+//! The pieces of a text: names, numbers, marks and the ends of lines.
+
+use std::iter::Peekable;
+use std::str::Chars;
+
+use crate::trouble::{trouble, Place, Trouble};
+
+/// A piece of a text.
+#[derive(Clone, Debug, PartialEq, Eq)]
+pub enum Piece {
+    Name(String),
+    Number(u16),
+    Open,
+    Close,
+    Comma,
+    Colon,
+    Arrow,
+    Through,
+    Persistent,
+    LineEnd,
+    End,
+}
+
+impl Piece {
+    /// The piece as it is told in a message.
+    pub fn told(&self) -> String {
+        match self {
+            Piece::Name(name) => format!("`{name}`"),
+            Piece::Number(number) => format!("`{number}`"),
+            Piece::Open => "`{`".into(),
+            Piece::Close => "`}`".into(),
+            Piece::Comma => "`,`".into(),
+            Piece::Colon => "`:`".into(),
+            Piece::Arrow => "`->`".into(),
+            Piece::Through => "`..`".into(),
+            Piece::Persistent => "`[p]`".into(),
+            Piece::LineEnd => "the end of the line".into(),
+            Piece::End => "the end of the text".into(),
+        }
+    }
+}
+
+/// A piece and where it begins.
+#[derive(Clone, Debug, PartialEq, Eq)]
+pub struct Token {
+    pub piece: Piece,
+    pub place: Place,
+}
+
+/// A walk over the characters of a text that knows its place.
+struct Walk<'a> {
+    rest: Peekable<Chars<'a>>,
+    place: Place,
+}
+
+impl Walk<'_> {
+    /// The next character, which stays.
+    fn peek(&mut self) -> Option<char> {
+        self.rest.peek().copied()
+    }
+
+    /// The character after the next, which stays.
+    fn peek_second(&self) -> Option<char> {
+        self.rest.clone().nth(1)
+    }
+
+    /// Takes the next character.
+    fn take(&mut self) -> Option<char> {
+        let taken = self.rest.next();
+        match taken {
+            Some('\n') => {
+                self.place.line += 1;
+                self.place.column = 1;
+            }
+            Some(_) => self.place.column += 1,
+            None => {}
+        }
+        taken
+    }
+
+    /// Takes characters as long as the test holds.
+    fn take_while(&mut self, test: impl Fn(char) -> bool) -> String {
+        let mut taken = String::new();
+        while let Some(c) = self.peek().filter(|c| test(*c)) {
+            taken.push(c);
+            self.take();
+        }
+        taken
+    }
+
+    /// Takes a name; a dash belongs to it where a letter, a digit or `_` follows.
+    fn name(&mut self) -> String {
+        let mut name = self.take_while(in_name);
+        while self.peek() == Some('-') && self.peek_second().is_some_and(in_name) {
+            self.take();
+            name.push('-');
+            name.push_str(&self.take_while(in_name));
+        }
+        name
+    }
+
+    /// Takes a number of at most 65,535.
+    fn number(&mut self) -> Result<Piece, Trouble> {
+        let place = self.place;
+        let digits = self.take_while(|c| c.is_ascii_digit());
+        if self.peek().is_some_and(in_name) {
+            let found = format!("`{digits}{}`", self.name());
+            return trouble(
+                place,
+                "a number, or a name that begins with a letter",
+                found,
+            );
+        }
+        match digits.parse() {
+            Ok(number) => Ok(Piece::Number(number)),
+            Err(_) => trouble(place, "a number of at most 65535", format!("`{digits}`")),
+        }
+    }
+
+    /// Takes a mark of more than one character, whose first was seen.
+    fn mark(&mut self, mark: &str, piece: Piece) -> Result<Piece, Trouble> {
+        let place = self.place;
+        for wanted in mark.chars() {
+            if self.peek() != Some(wanted) {
+                let found = match self.peek() {
+                    Some(c) if !c.is_control() => format!("`{c}` within it"),
+                    _ => "only its beginning".to_string(),
+                };
+                return trouble(place, format!("`{mark}`"), found);
+            }
+            self.take();
+        }
+        Ok(piece)
+    }
+
+    /// Takes a piece of one character.
+    fn single(&mut self, piece: Piece) -> Result<Piece, Trouble> {
+        self.take();
+        Ok(piece)
+    }
+
+    /// Takes the piece that begins with a character.
+    fn piece(&mut self, first: char) -> Result<Piece, Trouble> {
+        match first {
+            '{' => self.single(Piece::Open),
+            '}' => self.single(Piece::Close),
+            ',' => self.single(Piece::Comma),
+            ':' => self.single(Piece::Colon),
+            '→' => self.single(Piece::Arrow),
+            '\n' => self.single(Piece::LineEnd),
+            '-' => self.mark("->", Piece::Arrow),
+            '.' => self.mark("..", Piece::Through),
+            '[' => self.mark("[p]", Piece::Persistent),
+            _ if first.is_ascii_digit() => self.number(),
+            _ if first.is_alphabetic() || first == '_' => Ok(Piece::Name(self.name())),
+            _ => trouble(
+                self.place,
+                "a name, a number or one of `{ } , : -> .. [p] #`",
+                format!("`{}`", first.escape_debug()),
+            ),
+        }
+    }
+}
+
+/// A character may stand within a name.
+fn in_name(c: char) -> bool {
+    c.is_alphanumeric() || c == '_'
+}
+
+/// The pieces of a text, the last being its end; blanks and comments are left out.
+pub fn tokens(text: &str) -> Result<Vec<Token>, Trouble> {
+    let mut walk = Walk {
+        rest: text
+            .strip_prefix('\u{feff}')
+            .unwrap_or(text)
+            .chars()
+            .peekable(),
+        place: Place { line: 1, column: 1 },
+    };
+    let mut tokens = Vec::new();
+    while let Some(first) = walk.peek() {
+        let place = walk.place;
+        match first {
+            ' ' | '\t' | '\r' => {
+                walk.take();
+            }
+            '#' => {
+                walk.take_while(|c| c != '\n');
+            }
+            _ => {
+                let piece = walk.piece(first)?;
+                tokens.push(Token { piece, place });
+            }
+        }
+    }
+    tokens.push(Token {
+        piece: Piece::End,
+        place: walk.place,
+    });
+    Ok(tokens)
+}

@@ -1,0 +1,329 @@
+//! Text tables: the notation, what is packed as written, every trouble with its place, and back from bytes.
+
+use second::generator::{any_net, any_walk, damaged, walk, Random};
+use second::records::{word_bytes, RUN};
+use second::table::{read_table, table_bytes};
+use text::{is_text, read, steps_of, Part, Place, Table};
+
+/// Net A in words, with its run.
+const NET_A: &str = "# Net A in words.
+
+conditions: idle, on, key-loaded [p], done
+
+load: {idle} -> {on, key-loaded}   # marks the persistent condition
+work: {on, key-loaded} -> {done}
+again: {done} → {on}
+
+start: {idle}
+run night: load, work, again, work
+";
+
+/// The table of a text that must be sound.
+fn table(text: &str) -> Table {
+    read(text.as_bytes()).unwrap_or_else(|trouble| panic!("{trouble}\n{text}"))
+}
+
+/// The trouble of a text, as it is told.
+fn told(text: &[u8]) -> String {
+    read(text).expect_err("this text is wrong").to_string()
+}
+
+/// The number of the refusal that a text's table gets, or 0.
+fn refused(text: &str) -> u8 {
+    read_table(&table(text).bytes()).map_or_else(|refusal| refusal.number, |_| 0)
+}
+
+#[test]
+fn net_a_is_packed() {
+    let net = table(NET_A);
+    let bytes = [
+        4, 0, 1, 0, 0, 0, 1, 0, 10, 0, 2, 0, 1, 0, 2, 0, 0, 0, 1, 0, 2, 0, 10, 0, 2, 0, 2, 0, 1, 0,
+        1, 0, 2, 0, 3, 0, 8, 0, 2, 0, 1, 0, 1, 0, 3, 0, 1, 0, 2, 0, 3, 0, 0, 0,
+    ];
+    assert_eq!(net.bytes(), bytes);
+    assert_eq!(net.runs[0].bytes(), [8, 0, 4, 0, 0, 0, 1, 0, 2, 0, 1, 0]);
+    assert_eq!(net.run_called("night"), Some(0));
+    assert_eq!(net.events[1].place, Place { line: 6, column: 1 });
+    assert_eq!(
+        net.runs[0].places[3],
+        Place {
+            line: 10,
+            column: 31
+        }
+    );
+}
+
+#[test]
+fn net_a_is_shown() {
+    let bytes = table(NET_A).bytes();
+    let shown = Table::of_bytes(&bytes).unwrap().text();
+    let expected = "conditions: 0, 1, 2 [p], 3\n\n0: {0} -> {1, 2}\n1: {1, 2} -> {3}\n2: {3} -> {1}\n\nstart: {0}\n";
+    assert_eq!(shown, expected);
+    assert_eq!(table(&shown).bytes(), bytes);
+}
+
+#[test]
+fn one_table_in_many_layouts() {
+    let bytes = table(NET_A).bytes();
+    for text in [
+        "conditions: 0, 1, 2 [p], 3\n0:{0}->{1,2}\n1:{1,2}->{3}\n2:{3}->{1}\nstart:{0}",
+        "conditions: 0..1\nconditions:\n  2 [p]\n\n  3,\nstart: {0}\n0: {0} -> {2, 1}\n1: {1..2} -> {3}\n2: {3} -> {1}\n",
+        "\u{feff}start: { a }\r\nu: {\r\n  a\r\n} -> {\r\n b\r\n p, }\r\nv: {p, b}\n  -> {d}\nw: {d} -> {b}\nconditions: a, b # two\n, p [p]\n d",
+    ] {
+        assert_eq!(table(text).bytes(), bytes, "{text}");
+    }
+}
+
+#[test]
+fn runs_in_many_layouts() {
+    let text = "conditions: a\nx: {} -> {a}\ny: {a} -> {}\nstart: {}\nrun: x, y\n  0\n  1, x\nrun none:\nrun far: 65535\n";
+    let net = table(text);
+    let steps: Vec<_> = net.runs.iter().map(|run| run.steps.clone()).collect();
+    assert_eq!(steps, [vec![0, 1, 0, 1, 0], vec![], vec![65_535]]);
+    assert_eq!(net.run_called("0"), Some(0));
+    assert_eq!(net.run_called("far"), Some(2));
+    assert_eq!(net.run_called("1"), None);
+    assert_eq!(steps_of(&net.runs[0].bytes()), Some(vec![0, 1, 0, 1, 0]));
+}
+
+#[test]
+fn what_the_judge_refuses_is_packed_as_written() {
+    assert_eq!(refused("conditions:\nstart: {}"), 3);
+    assert_eq!(refused("conditions: 0..255\nstart: {}"), 0);
+    assert_eq!(refused("conditions: 0..256\nstart: {}"), 3);
+    assert_eq!(refused("conditions: a\nx: {a} -> {1}\nstart: {}"), 5);
+    assert_eq!(refused("conditions: a\nstart: {65535}"), 5);
+    assert_eq!(refused("conditions: a\nx: {} -> {}\nstart: {}"), 7);
+    assert_eq!(
+        refused("conditions: 0..16 [p]\nx: {0..16} -> {}\nstart: {}"),
+        8
+    );
+    assert_eq!(
+        refused("conditions: 0..16 [p]\nx: {0..15} -> {}\nstart: {}"),
+        0
+    );
+    let events = |count: usize| {
+        (0..count)
+            .map(|e| format!("{e}: {{0}} -> {{}}\n"))
+            .collect::<String>()
+    };
+    assert_eq!(
+        refused(&format!("conditions: 0\n{}start: {{}}", events(256))),
+        0
+    );
+    assert_eq!(
+        refused(&format!("conditions: 0\n{}start: {{}}", events(257))),
+        6
+    );
+}
+
+#[test]
+fn a_part_that_is_missing_is_told() {
+    assert_eq!(
+        told(b""),
+        "line 1, column 1: expected `conditions:` somewhere, found the end of the text"
+    );
+    assert_eq!(
+        told(b"conditions: a\n"),
+        "line 2, column 1: expected `start:` somewhere, found the end of the text"
+    );
+    assert_eq!(
+        told(b"conditions: a\n# caf\xe9\nstart: {}"),
+        "line 2, column 6: expected text in UTF-8, found the byte 0xe9"
+    );
+}
+
+#[test]
+fn troubles_of_conditions() {
+    for (text, expected) in [
+        ("conditions a", "column 12: expected `:`, found `a`"),
+        ("conditions: a b", "column 15: expected `[p]`, `,` or the end of the line, found `b`"),
+        ("conditions: a [p] b", "column 19: expected `,` or the end of the line, found `b`"),
+        ("conditions: a [q]", "column 15: expected `[p]`, found `q` within it"),
+        ("conditions: a,, b", "column 15: expected the name or number of a condition, found `,`"),
+        ("conditions: a, 2", "column 16: expected 1, the number of the condition that stands here, or a name, found `2`"),
+        ("conditions: 0..3, 3", "column 19: expected 4, the number of the condition that stands here, or a name, found `3`"),
+        ("conditions: start", "column 13: expected the name or number of a condition, found `start`, which begins a statement and so names nothing"),
+        ("conditions: 5..3", "column 16: expected a number from 5 on, where the range ends, found `3`"),
+        ("conditions: 7up", "column 13: expected a number, or a name that begins with a letter, found `7up`"),
+        ("conditions: a; b", "column 14: expected a name, a number or one of `{ } , : -> .. [p] #`, found `;`"),
+        ("conditions: a, a", "column 16: expected a name that no other condition has, found `a`, which stands at line 2, column 13 too"),
+    ] {
+        let expected = format!("line 2, {expected}");
+        assert_eq!(told(format!("start: {}\n{text}", "{}").as_bytes()), expected);
+    }
+}
+
+#[test]
+fn troubles_of_other_statements() {
+    let before = "conditions: a, b [p]\nx: {a} -> {b}\nstart: {a}\n";
+    for (statement, expected) in [
+        ("y {a}", "line 4, column 3: expected `:`, found `{`"),
+        ("y: a", "line 4, column 4: expected `{`, found `a`"),
+        ("y: {a} {b}", "line 4, column 8: expected `->`, found `{`"),
+        ("y: {a} - {b}", "line 4, column 8: expected `->`, found ` ` within it"),
+        ("y: {a b} -> {}", "line 4, column 7: expected `,` or `}`, found `b`"),
+        ("y: {a [p]} -> {}", "line 4, column 7: expected `,` or `}`, found `[p]`"),
+        ("y: {a} -> {b", "line 4, column 13: expected `,` or `}`, found the end of the text"),
+        ("y: {a} -> {b} z", "line 4, column 15: expected the end of the line, found `z`"),
+        ("y: {a, a} -> {}", "line 4, column 8: expected each condition once in a list, found `a` a second time"),
+        ("y: {b, 0..1} -> {}", "line 4, column 8: expected each condition once in a list, found `b` a second time"),
+        ("y: {aa} -> {}", "line 4, column 5: expected the name or number of a condition, found `aa`, which is none (is `a` meant?)"),
+        ("y: {xyz} -> {}", "line 4, column 5: expected the name or number of a condition, found `xyz`, which is none"),
+        ("y: {65536} -> {}", "line 4, column 5: expected a number of at most 65535, found `65536`"),
+        ("y: {0..65535} -> {}", "line 4, column 4: expected at most 32765 conditions, which fill a record, found 65536"),
+        ("0: {a} -> {}", "line 4, column 1: expected 1, the number of the event that stands here, or a name, found `0`"),
+        ("x: {a} -> {}", "line 4, column 1: expected a name that no other event has, found `x`, which stands at line 2, column 1 too"),
+        ("start: {a}", "line 4, column 1: expected one `start:`, found a second one"),
+        ("run r: x, z", "line 4, column 11: expected the name or number of an event, found `z`, which is none"),
+        ("run r: x, 0..1", "line 4, column 12: expected `,` or the end of the line, found `..`"),
+        ("run {x}", "line 4, column 5: expected a name for the run, or `:`, found `{`"),
+        ("run run: x", "line 4, column 5: expected a name for the run, or `:`, found `run`, which begins a statement and so names nothing"),
+        ("run r: x\nrun r: x", "line 5, column 1: expected a name that no other run has, found `r`, which stands at line 4, column 1 too"),
+        ("run r: x y: {a} -> {}", "line 4, column 10: expected `,` or the end of the line, found `y`"),
+        ("run r: x, y: {a} -> {}", "line 4, column 12: expected `,` or the end of the line, found `:`"),
+        ("} -> {", "line 4, column 1: expected `conditions:`, `start:`, `run` or an event's name, found `}`"),
+    ] {
+        assert_eq!(told(format!("{before}{statement}").as_bytes()), expected);
+    }
+}
+
+#[test]
+fn columns_count_characters() {
+    let text = "conditions: größe, größe";
+    assert!(told(format!("{text}\nstart: {{}}").as_bytes())
+        .starts_with("line 1, column 20: expected a name that"));
+}
+
+#[test]
+fn parts_are_found_by_offset() {
+    let net = table(NET_A);
+    let parts: Vec<_> = [0, 8, 22, 36, 48, 54, 9]
+        .iter()
+        .map(|o| net.part_at(*o))
+        .collect();
+    let event = |e| Some(Part::Event(e));
+    assert_eq!(
+        parts,
+        [
+            Some(Part::Conditions),
+            event(0),
+            event(1),
+            event(2),
+            Some(Part::Start),
+            None,
+            None
+        ]
+    );
+}
+
+/// The seed of the generated cases, from the environment if it is given there.
+fn seed() -> u64 {
+    let given = std::env::var("SEED")
+        .ok()
+        .and_then(|seed| seed.parse().ok());
+    let seed = given.unwrap_or(2026);
+    println!("SEED={seed}");
+    seed
+}
+
+#[test]
+fn generated_tables_come_back() {
+    let mut random = Random::new(seed());
+    for _ in 0..3_000 {
+        let net = any_net(&mut random);
+        let bytes = table_bytes(&net);
+        assert!(!is_text(&bytes));
+        let mut shown = Table::of_bytes(&bytes).unwrap();
+        let way = any_walk(&mut random);
+        let steps = walk(&mut random, &net, net.events.len(), &way);
+        let run_bytes = second::records::record_bytes(RUN, &word_bytes(&steps));
+        assert_eq!(steps_of(&run_bytes), Some(steps.clone()));
+        shown.runs.push(text::Run {
+            steps,
+            ..text::Run::default()
+        });
+        let text = shown.text();
+        assert!(is_text(text.as_bytes()));
+        let again = table(&text);
+        assert_eq!(again.bytes(), bytes, "{text}");
+        assert_eq!(again.runs[0].bytes(), run_bytes, "{text}");
+        assert_eq!(again.text(), text);
+    }
+}
+
+#[test]
+fn names_come_back() {
+    let mut random = Random::new(seed());
+    for _ in 0..2_000 {
+        let net = second::generator::small_net(&mut random);
+        let mut shown = Table::of_bytes(&table_bytes(&net)).unwrap();
+        for (number, condition) in shown.conditions.iter_mut().enumerate() {
+            condition.name = random.percent(60).then(|| format!("c-{number}_é"));
+        }
+        for (number, event) in shown.events.iter_mut().enumerate() {
+            event.name = random.percent(60).then(|| format!("e{number}"));
+        }
+        let text = shown.text();
+        let again = table(&text);
+        assert_eq!(again.bytes(), shown.bytes(), "{text}");
+        assert_eq!(again.text(), text);
+        let names = |t: &Table| {
+            t.conditions
+                .iter()
+                .map(|c| c.name.clone())
+                .collect::<Vec<_>>()
+        };
+        assert_eq!(names(&again), names(&shown));
+    }
+}
+
+#[test]
+fn damaged_text_is_told_or_taken() {
+    let mut random = Random::new(seed());
+    let marks: Vec<char> = "{}[]p,:->.#\n 09az→é".chars().collect();
+    let mut wrong = 0;
+    for _ in 0..30_000 {
+        let mut text: Vec<char> = NET_A.chars().collect();
+        for _ in 0..random.between(1, 3) {
+            let at = random.below(text.len());
+            match random.below(3) {
+                0 => text[at] = marks[random.below(marks.len())],
+                1 => text.insert(at, marks[random.below(marks.len())]),
+                _ => drop(text.remove(at)),
+            }
+        }
+        let text: String = text.into_iter().collect();
+        match read(text.as_bytes()) {
+            Ok(net) => assert_eq!(table(&net.text()).bytes(), net.bytes()),
+            Err(trouble) => {
+                wrong += 1;
+                let lines: Vec<&str> = text.split('\n').collect();
+                let line = lines[trouble.place.line - 1];
+                let column = trouble.place.column;
+                assert!(
+                    (1..=line.chars().count() + 1).contains(&column),
+                    "{trouble}\n{text}"
+                );
+            }
+        }
+    }
+    assert!(wrong > 5_000);
+}
+
+#[test]
+fn damaged_bytes_are_no_panic() {
+    let mut random = Random::new(seed());
+    for _ in 0..20_000 {
+        let net = second::generator::small_net(&mut random);
+        if net.events.is_empty() {
+            continue;
+        }
+        let broken = damaged(&mut random, &net);
+        if let Some(shown) = Table::of_bytes(&broken.bytes) {
+            shown.text();
+        }
+        let _ = read(&broken.bytes);
+        let _ = steps_of(&broken.bytes);
+    }
+}
