@@ -1,0 +1,153 @@
+//! Refusals in words: what the number means, and what the place is in the file that was given.
+
+use text::Part;
+use wire::{Failure, Refusal};
+
+use crate::source::{RunSource, Source};
+use crate::stop::Stop;
+
+/// What a refusal's number means.
+pub fn meaning(number: u64) -> &'static str {
+    match number {
+        1 => "a record is due here, but its header or payload runs past the end of the file",
+        2 => "a record of this kind is not allowed here",
+        3 => "the record's length is not right for its kind (1 to 256 conditions, at most 4096 steps of a run)",
+        4 => "a condition's byte is neither 0, ordinary, nor 1, persistent",
+        5 => "a list does not ascend, or names a condition that the table does not have",
+        6 => "there are over 256 events",
+        7 => "the event has neither a precondition nor a postcondition",
+        8 => "the event has over 16 persistent preconditions",
+        9 => "there are bytes after the last record",
+        10 => "there is no such event",
+        11 => "a precondition of the event does not hold",
+        12 => "contact: an ordinary postcondition of the event holds already and is not among its preconditions",
+        13 => "the event touches nothing once unfolded: it takes nothing and marks only what no event reads",
+        14 => "there are over 65535 unfolded conditions or unfolded events",
+        15 => "an event that marks a persistent condition comes a second time, so that the run plays but does not lift",
+        16 => "what was lent for the answer is too short",
+        17 => "the two steps depend on each other and may not change places",
+        18 => "a marking has the wrong length, or a byte above 1",
+        19 => "the file is too long (65536 bytes for a table, 8196 for a run)",
+        _ => "this number is not in the list of refusals",
+    }
+}
+
+/// A number with the name that it has, if any.
+fn with_name(number: u16, name: &str) -> String {
+    if name == number.to_string() {
+        return name.to_string();
+    }
+    format!("{number} `{name}`")
+}
+
+/// The kind of the record at an offset, and how many records come before it.
+fn record_at(bytes: &[u8], offset: usize) -> (Option<u8>, usize) {
+    let mut at = 0;
+    let mut before = 0;
+    while at < offset && at + 4 <= bytes.len() {
+        at += 4 + usize::from(bytes[at]) + 256 * usize::from(bytes[at + 1]);
+        before += 1;
+    }
+    (bytes.get(offset + 2).copied(), before)
+}
+
+impl Source {
+    /// An event with its name and its line.
+    fn event_told(&self, number: u16) -> String {
+        let told = format!("event {}", with_name(number, &self.table.event_name(number)));
+        match self.table.events.get(usize::from(number)) {
+            Some(event) if self.is_text => format!("{told}, line {} of {}", event.place.line, self.path),
+            _ => format!("{told} of {}", self.path),
+        }
+    }
+
+    /// What stands at an offset of the table.
+    fn offset_told(&self, offset: usize) -> String {
+        let path = &self.path;
+        if self.is_text {
+            return match self.table.part_at(offset) {
+                Some(Part::Event(event)) => self.event_told(event as u16),
+                Some(Part::Start) => format!("`start:`, line {} of {path}", self.table.start_place.line),
+                _ => format!("the conditions of {path}"),
+            };
+        }
+        let record = match record_at(&self.bytes, offset) {
+            (_, 0) => "the first record".to_string(),
+            (Some(2), before) => format!("the record of event {}", before - 1),
+            (Some(3), _) => "the Marking record".to_string(),
+            (_, before) => format!("record {before}, counted from 0"),
+        };
+        format!("byte {offset} of {path}, {record}")
+    }
+
+    /// What the place of a refusal of the table is.
+    fn place_told(&self, refusal: Refusal) -> String {
+        match refusal.number {
+            1..=8 => self.offset_told(refusal.place as usize),
+            9 => format!("byte {} of {}", refusal.place, self.path),
+            13 => self.event_told(refusal.place as u16),
+            _ => self.path.clone(),
+        }
+    }
+
+    /// What the place of a refusal of a run of this table is.
+    pub fn step_told(&self, run: &RunSource, refusal: Refusal) -> String {
+        let called = &run.called;
+        let step = refusal.place as usize;
+        if !matches!(refusal.number, 10..=12 | 15) {
+            return called.clone();
+        }
+        let told = format!("step {step} of {called}, counted from 0");
+        let Some(event) = run.steps.get(step) else {
+            return told;
+        };
+        let event = with_name(*event, &self.table.event_name(*event));
+        match run.places.get(step) {
+            Some(place) => format!("{told}: event {event}, {place} of {}", self.path),
+            None => format!("{told}: event {event}"),
+        }
+    }
+
+    /// The condition that stops an event at a marking, by the number of its refusal, if the marking tells it.
+    pub fn stopped_by(&self, event: u16, marking: &[u8], number: u64) -> Option<String> {
+        let event = self.table.events.get(usize::from(event))?;
+        let holds = |b: &u16| marking.get(usize::from(*b)) == Some(&1);
+        let persistent = |b: &u16| self.table.conditions.get(usize::from(*b)).is_some_and(|c| c.persistent);
+        let contact = |b: &&u16| holds(b) && !persistent(b) && !event.preconditions.contains(b);
+        let (condition, why) = match number {
+            11 => (event.preconditions.iter().find(|b| !holds(b)), "does not hold"),
+            12 => (event.postconditions.iter().find(contact), "holds already"),
+            _ => (None, ""),
+        };
+        let name = self.table.condition_name(*condition?);
+        Some(format!("condition {} {why}", with_name(*condition?, &name)))
+    }
+
+    /// A refusal of the table, told.
+    pub fn refused(&self, refusal: Refusal) -> Stop {
+        let lines = [meaning(refusal.number).to_string(), self.place_told(refusal)];
+        Stop::Refused(refusal, told(lines))
+    }
+
+    /// A refusal of a run of this table, told with the condition that stopped it, if that is known.
+    pub fn run_refused(&self, run: &RunSource, refusal: Refusal, by: Option<String>) -> Stop {
+        let mut meaning = meaning(refusal.number).to_string();
+        if let Some(by) = by {
+            meaning = format!("{meaning}: {by}");
+        }
+        Stop::Refused(refusal, told([meaning, self.step_told(run, refusal)]))
+    }
+
+    /// Why a call on the table gave no answer.
+    pub fn failed(&self, failure: Failure) -> Stop {
+        match failure {
+            Failure::Refused(refusal) => self.refused(refusal),
+            Failure::Lost(what) => Stop::Failed(format!("the library: {what}")),
+        }
+    }
+}
+
+/// The lines that tell a refusal: what it means, and where it is.
+fn told([meaning, place]: [String; 2]) -> Vec<String> {
+    vec![format!("  what: {meaning}"), format!("  where: {place}")]
+}

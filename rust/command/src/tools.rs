@@ -1,0 +1,47 @@
+//! What the script at the top of the repository builds: the driver of the proved library, and the proved program `list`.
+
+use std::path::PathBuf;
+use std::process::{Command, Stdio};
+
+use wire::Driver;
+
+use crate::stop::{Stop, Stopped};
+
+/// Has the script build something if it is not built yet; a caller without the script has built it already.
+fn built(what: &str) -> Stopped<()> {
+    let Some(script) = std::env::var_os("DOVETRELLIS_SCRIPT") else {
+        return Ok(());
+    };
+    let mut command = Command::new(script);
+    command.args(["build", what]).stdin(Stdio::null());
+    match command.status() {
+        Ok(status) if status.success() => Ok(()),
+        Ok(_) => Err(Stop::Failed(format!("the {what} could not be built"))),
+        Err(error) => Err(Stop::Failed(format!("the {what} could not be built: {error}"))),
+    }
+}
+
+/// The proved library.
+pub fn library() -> Stopped<Driver> {
+    built("library")?;
+    Driver::open().map_err(|error| Stop::Failed(error.to_string()))
+}
+
+/// The command that runs the proved program `list`.
+pub fn list_program() -> Stopped<Command> {
+    built("list")?;
+    let missing = || Stop::Failed("DOVETRELLIS_LIST names no listing program".to_string());
+    let program = std::env::var("DOVETRELLIS_LIST").map_err(|_| missing())?;
+    let runner = std::env::var("RATTLE_RUN").unwrap_or_default();
+    let mut words = runner.split_whitespace().chain([program.as_str()]);
+    let first = words.next().ok_or_else(missing)?;
+    let mut command = Command::new(first);
+    command.args(words);
+    Ok(command)
+}
+
+/// The folder of the examples, which the script tells.
+pub fn examples() -> PathBuf {
+    let top = std::env::var_os("DOVETRELLIS_TOP").unwrap_or_else(|| ".".into());
+    PathBuf::from(top).join("examples")
+}
