@@ -63,7 +63,10 @@ fn asked_pack(words: &[String]) -> Stopped<Asked> {
     }
     let (file, rest) = first(&others, "FILE")?;
     nothing_after(rest)?;
-    Ok(Asked::Pack(file.clone(), folder.unwrap_or_else(|| ".".to_string())))
+    Ok(Asked::Pack(
+        file.clone(),
+        folder.unwrap_or_else(|| ".".to_string()),
+    ))
 }
 
 /// What the words ask for.

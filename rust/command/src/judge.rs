@@ -5,50 +5,54 @@ use std::io::Write;
 use wire::{Driver, Failure, Refusal};
 
 use crate::source::{self, RunSource, Source};
-use crate::stop::{Stop, Stopped};
-use crate::telling::meaning;
+use crate::stop::{Stop, Stopped, Told};
+use crate::telling::counted;
 use crate::tools;
 
-/// A refusal on one line: number, place, what it means and where it is.
-fn on_one_line(stop: Stop) -> Stopped<String> {
-    match stop {
-        Stop::Refused(Refusal { number, place }, lines) => {
-            let place_told = lines.get(1).map_or("", |line| line.trim_start());
-            Ok(format!("refused {number} at {place}: {}; {place_told}", meaning(number)))
-        }
-        other => Err(other),
-    }
+/// What is refused, in words on lines of their own.
+fn refused(before: &str, told: &Told) -> String {
+    format!("{before}{}\n{}", told.line(), told.words())
 }
 
 /// How the unfolding of a table fares.
 fn unfolding(library: &mut Driver, table: &Source) -> Stopped<String> {
     match library.unfolded_counts(&table.bytes) {
-        Ok(counts) => Ok(format!(
-            "unfolds to {} conditions and {} events",
-            counts.conditions, counts.events
-        )),
-        Err(failure) => {
-            let refused = on_one_line(table.failed(failure))?;
-            Ok(format!("does not unfold: {refused}"))
+        Ok(counts) => {
+            let conditions = counted(counts.conditions, "condition");
+            Ok(format!(
+                "unfolds to {conditions} and {}",
+                counted(counts.events, "event")
+            ))
         }
+        Err(failure) => match table.failed(failure) {
+            Stop::Refused(told) => Ok(refused("does not unfold: ", &told)),
+            other => Err(other),
+        },
     }
 }
 
-/// A refusal of a run on one line, with the condition that stopped it.
-fn run_stopped(library: &mut Driver, table: &Source, run: &RunSource, refusal: Refusal) -> Stopped<String> {
+/// A refusal of a run in words, with the condition that stopped it.
+fn run_told(
+    library: &mut Driver,
+    table: &Source,
+    run: &RunSource,
+    refusal: Refusal,
+) -> Stopped<Told> {
     let step = refusal.place as usize;
     let mut by = None;
     if let (11 | 12, Some(event)) = (refusal.number, run.steps.get(step)) {
         let mut marking = vec![0; table.table.conditions.len()];
-        library
-            .replay(&table.bytes, &run.steps[..step], &mut marking)
-            .map_err(|failure| table.failed(failure))?;
+        let before = library.replay(&table.bytes, &run.steps[..step], &mut marking);
+        before.map_err(|failure| table.failed(failure))?;
         by = table.stopped_by(*event, &marking, refusal.number);
     }
-    let place = table.step_told(run, refusal);
-    let by = by.map(|by| format!(" ({by})")).unwrap_or_default();
-    let meaning = meaning(refusal.number);
-    Ok(format!("refused {} at {}: {meaning}{by}; {place}", refusal.number, refusal.place))
+    Ok(table.run_told(run, refusal, by))
+}
+
+/// The conditions that hold in a marking.
+fn held(marking: &[u8]) -> Vec<u16> {
+    let held = (0..=u16::MAX).zip(marking).filter(|(_, held)| **held == 1);
+    held.map(|(number, _)| number).collect()
 }
 
 /// How a run of a table fares: whether it plays, where it ends, and whether it lifts.
@@ -56,19 +60,23 @@ fn run_fares(library: &mut Driver, table: &Source, run: &RunSource) -> Stopped<S
     let mut end = vec![0; table.table.conditions.len()];
     match library.replay(&table.bytes, &run.steps, &mut end) {
         Ok(()) => {}
-        Err(Failure::Refused(refusal)) => return run_stopped(library, table, run, refusal),
+        Err(Failure::Refused(refusal)) => {
+            return Ok(refused("", &run_told(library, table, run, refusal)?));
+        }
         Err(lost) => return Err(table.failed(lost)),
     }
-    let held: Vec<u16> = (0..=u16::MAX).zip(&end).filter(|(_, held)| **held == 1).map(|(b, _)| b).collect();
-    let ends = format!("plays, {} steps, ends in {}", run.steps.len(), table.table.set(&held));
+    let steps = counted(run.steps.len() as u64, "step");
+    let ends = format!("{steps}, ends in {}", table.table.set(&held(&end)));
     let mut lifted = vec![0; run.steps.len()];
     match library.lift(&table.bytes, &run.steps, &mut lifted) {
-        Ok(()) => Ok(format!("{ends}; lifts")),
+        Ok(()) => Ok(format!("{ends}, lifts")),
         Err(Failure::Refused(refusal)) if refusal.number == 15 => {
-            let stopped = run_stopped(library, table, run, refusal)?;
-            Ok(format!("{ends}; does not lift: {stopped}"))
+            let told = run_told(library, table, run, refusal)?;
+            Ok(refused(&format!("{ends}, does not lift: "), &told))
         }
-        Err(Failure::Refused(_)) => Ok(format!("{ends}; does not lift, as the table does not unfold")),
+        Err(Failure::Refused(_)) => Ok(format!(
+            "{ends}, does not lift, as the table does not unfold"
+        )),
         Err(lost) => Err(table.failed(lost)),
     }
 }
@@ -77,8 +85,15 @@ fn run_fares(library: &mut Driver, table: &Source, run: &RunSource) -> Stopped<S
 pub fn judge(path: &str, out: &mut impl Write) -> Stopped<()> {
     let table = source::read(path)?;
     let mut library = tools::library()?;
-    let counts = library.counts(&table.bytes).map_err(|failure| table.failed(failure))?;
-    writeln!(out, "accepted: {} conditions and {} events", counts.conditions, counts.events)?;
+    let counts = library
+        .counts(&table.bytes)
+        .map_err(|failure| table.failed(failure))?;
+    let conditions = counted(counts.conditions, "condition");
+    writeln!(
+        out,
+        "accepted: {conditions} and {}",
+        counted(counts.events, "event")
+    )?;
     writeln!(out, "{}", unfolding(&mut library, &table)?)?;
     for index in 0..table.table.runs.len() {
         let run = table.run(index);

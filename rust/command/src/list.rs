@@ -14,7 +14,10 @@ const NO_STEPS: [u8; 4] = [0, 0, 4, 0];
 
 /// The refusal that a listing consists of, if it is one.
 fn refusal_of(listing: &str) -> Option<Refusal> {
-    let (number, place) = listing.strip_prefix("refused ")?.trim_end().split_once(" at ")?;
+    let (number, place) = listing
+        .strip_prefix("refused ")?
+        .trim_end()
+        .split_once(" at ")?;
     Some(Refusal {
         number: number.parse().ok()?,
         place: place.parse().ok()?,
@@ -25,7 +28,11 @@ fn refusal_of(listing: &str) -> Option<Refusal> {
 fn last_marking(listing: &str, conditions: usize) -> Option<Vec<u8>> {
     let line = listing.lines().rev().nth(1)?;
     let mut marking = vec![0; conditions];
-    let held = line.rsplit(' ').next()?.split(',').filter(|word| *word != "-");
+    let held = line
+        .rsplit(' ')
+        .next()?
+        .split(',')
+        .filter(|word| *word != "-");
     for condition in held {
         *marking.get_mut(condition.parse::<usize>().ok()?)? = 1;
     }
@@ -56,15 +63,18 @@ fn stopped_by(table: &Source, run: &RunSource, refusal: Refusal) -> Stopped<Opti
 /// A refusal in place of a listing, told: it is the table's own where a run without steps is refused the same.
 fn refused(table: &Source, run: &RunSource, refusal: Refusal) -> Stopped<()> {
     if refusal_of(&listed(table, &NO_STEPS)?) == Some(refusal) {
-        return Err(table.refused(refusal));
+        return Err(Stop::Refused(table.told(refusal)));
     }
     let by = stopped_by(table, run, refusal)?;
-    Err(table.run_refused(run, refusal, by))
+    Err(Stop::Refused(table.run_told(run, refusal, by)))
 }
 
 /// Lists a run of a table; without a table, the run of the example.
 pub fn list(table: Option<&str>, run: Option<&str>, out: &mut impl Write) -> Stopped<()> {
-    let example = tools::examples().join("net-a.txt").to_string_lossy().into_owned();
+    let example = tools::examples()
+        .join("net-a.txt")
+        .to_string_lossy()
+        .into_owned();
     let table = source::read(table.unwrap_or(&example))?;
     let run = table.asked_run(run)?;
     let listing = listed(&table, &run.bytes)?;

@@ -48,11 +48,19 @@ impl Drop for Folder {
 
 /// What a listing program writes when it is run in a folder.
 pub fn listing_in(folder: &Path, program: &mut Command) -> io::Result<String> {
-    let output = program.current_dir(folder).stdin(Stdio::null()).stderr(Stdio::inherit()).output()?;
+    let output = program
+        .current_dir(folder)
+        .stdin(Stdio::null())
+        .stderr(Stdio::inherit())
+        .output()?;
     if !output.status.success() {
-        return Err(io::Error::other(format!("the listing program: {}", output.status)));
+        return Err(io::Error::other(format!(
+            "the listing program: {}",
+            output.status
+        )));
     }
-    String::from_utf8(output.stdout).map_err(|_| io::Error::other("the listing program wrote no text"))
+    String::from_utf8(output.stdout)
+        .map_err(|_| io::Error::other("the listing program wrote no text"))
 }
 
 /// What a listing program writes for a table and a run.

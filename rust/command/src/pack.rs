@@ -17,14 +17,19 @@ const MOST_STEPS: usize = 4096;
 fn write(folder: &str, name: &str, bytes: &[u8], out: &mut impl Write) -> Stopped<()> {
     let path = Path::new(folder).join(name);
     let failed = |error| Stop::Failed(format!("{}: {error}", path.display()));
-    fs::create_dir_all(folder).and_then(|()| fs::write(&path, bytes)).map_err(failed)?;
+    fs::create_dir_all(folder)
+        .and_then(|()| fs::write(&path, bytes))
+        .map_err(failed)?;
     Ok(writeln!(out, "{} ({} bytes)", path.display(), bytes.len())?)
 }
 
 /// Turns a text table into records, as written; then the library judges them.
 pub fn pack(path: &str, folder: &str, out: &mut impl Write) -> Stopped<()> {
     let table = read_text(path)?;
-    let stem = Path::new(path).file_stem().unwrap_or_default().to_string_lossy();
+    let stem = Path::new(path)
+        .file_stem()
+        .unwrap_or_default()
+        .to_string_lossy();
     write(folder, &format!("{stem}.net.bin"), &table.bytes, out)?;
     for (index, run) in table.table.runs.iter().enumerate() {
         let name = table.table.run_name(index);
@@ -32,7 +37,9 @@ pub fn pack(path: &str, folder: &str, out: &mut impl Write) -> Stopped<()> {
     }
     out.flush()?;
     let mut library = tools::library()?;
-    library.judge(&table.bytes).map_err(|failure| table.failed(failure))?;
+    library
+        .judge(&table.bytes)
+        .map_err(|failure| table.failed(failure))?;
     for index in 0..table.table.runs.len() {
         let run = table.run(index);
         steps_of(&mut library, &table, &run)?;
@@ -41,10 +48,14 @@ pub fn pack(path: &str, folder: &str, out: &mut impl Write) -> Stopped<()> {
 }
 
 /// The steps of a run's record, as the library reads them.
-fn steps_of(library: &mut wire::Driver, table: &source::Source, run: &RunSource) -> Stopped<Vec<u16>> {
+fn steps_of(
+    library: &mut wire::Driver,
+    table: &source::Source,
+    run: &RunSource,
+) -> Stopped<Vec<u16>> {
     let steps = whole(MOST_STEPS, |steps| library.read_run(&run.bytes, steps));
     steps.map_err(|failure| match failure {
-        Failure::Refused(refusal) => table.run_refused(run, refusal, None),
+        Failure::Refused(refusal) => Stop::Refused(table.run_told(run, refusal, None)),
         lost => table.failed(lost),
     })
 }
@@ -53,7 +64,9 @@ fn steps_of(library: &mut wire::Driver, table: &source::Source, run: &RunSource)
 pub fn show(path: &str, runs: &[String], out: &mut impl Write) -> Stopped<()> {
     let mut table = source::read(path)?;
     let mut library = tools::library()?;
-    library.judge(&table.bytes).map_err(|failure| table.failed(failure))?;
+    library
+        .judge(&table.bytes)
+        .map_err(|failure| table.failed(failure))?;
     for run in runs {
         let run = read_run(run)?;
         let steps = steps_of(&mut library, &table, &run)?;

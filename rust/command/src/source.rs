@@ -92,16 +92,19 @@ impl Source {
     pub fn asked_run(&self, asked: Option<&str>) -> Stopped<RunSource> {
         let names = || (0..self.table.runs.len()).map(|index| self.table.run_name(index));
         match asked {
-            None if self.table.runs.is_empty() => {
-                Err(Stop::Use(format!("{} has no run, so RUN must be given", self.path)))
-            }
+            None if self.table.runs.is_empty() => Err(Stop::Use(format!(
+                "{} has no run, so RUN must be given",
+                self.path
+            ))),
             None => Ok(self.run(0)),
             Some(name) => match self.table.run_called(name) {
                 Some(index) => Ok(self.run(index)),
                 None if self.is_text && fs::metadata(name).is_err() => {
                     let names: Vec<String> = names().collect();
                     let known = format!("the runs of {} are: {}", self.path, names.join(", "));
-                    Err(Stop::Use(format!("'{name}' is neither a run nor a file; {known}")))
+                    Err(Stop::Use(format!(
+                        "'{name}' is neither a run nor a file; {known}"
+                    )))
                 }
                 None => read_run(name),
             },

@@ -4,11 +4,31 @@ use std::io;
 
 use wire::Refusal;
 
+/// A refusal in words: what its number means, and what its place is.
+#[derive(Clone, Debug, PartialEq, Eq)]
+pub struct Told {
+    pub refusal: Refusal,
+    pub what: String,
+    pub place: String,
+}
+
+impl Told {
+    /// The line that answers in place of anything else.
+    pub fn line(&self) -> String {
+        format!("refused {} at {}", self.refusal.number, self.refusal.place)
+    }
+
+    /// The two lines that say what it means and where it is.
+    pub fn words(&self) -> String {
+        format!("  what: {}\n  where: {}", self.what, self.place)
+    }
+}
+
 /// Why a command ends without its answer.
 #[derive(Debug)]
 pub enum Stop {
-    /// The library refused the table or the run; the lines say what that means.
-    Refused(Refusal, Vec<String>),
+    /// The library refused the table or the run.
+    Refused(Told),
     /// A text cannot be turned into records; the line says where and why.
     Text(String),
     /// The words of the command are wrong.
@@ -26,12 +46,14 @@ impl Stop {
     /// Says what happened: a refusal's one line goes to the output, everything else to the error output.
     pub fn tell(&self) {
         match self {
-            Stop::Refused(refusal, lines) => {
-                println!("refused {} at {}", refusal.number, refusal.place);
-                lines.iter().for_each(|line| eprintln!("{line}"));
+            Stop::Refused(told) => {
+                println!("{}", told.line());
+                eprintln!("{}", told.words());
             }
             Stop::Text(line) | Stop::Failed(line) => eprintln!("dovetrellis: {line}"),
-            Stop::Use(line) => eprintln!("dovetrellis: {line}\n'dovetrellis help' tells the commands"),
+            Stop::Use(line) => {
+                eprintln!("dovetrellis: {line}\n'dovetrellis help' tells the commands")
+            }
             Stop::Unread => {}
         }
     }

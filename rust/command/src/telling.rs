@@ -4,7 +4,7 @@ use text::Part;
 use wire::{Failure, Refusal};
 
 use crate::source::{RunSource, Source};
-use crate::stop::Stop;
+use crate::stop::{Stop, Told};
 
 /// What a refusal's number means.
 pub fn meaning(number: u64) -> &'static str {
@@ -23,13 +23,19 @@ pub fn meaning(number: u64) -> &'static str {
         12 => "contact: an ordinary postcondition of the event holds already and is not among its preconditions",
         13 => "the event touches nothing once unfolded: it takes nothing and marks only what no event reads",
         14 => "there are over 65535 unfolded conditions or unfolded events",
-        15 => "an event that marks a persistent condition comes a second time, so that the run plays but does not lift",
+        15 => "an event that marks a persistent condition comes a second time, and such a run is not lifted",
         16 => "what was lent for the answer is too short",
         17 => "the two steps depend on each other and may not change places",
         18 => "a marking has the wrong length, or a byte above 1",
         19 => "the file is too long (65536 bytes for a table, 8196 for a run)",
         _ => "this number is not in the list of refusals",
     }
+}
+
+/// So many things of a kind, in words.
+pub fn counted(count: u64, thing: &str) -> String {
+    let plural = if count == 1 { "" } else { "s" };
+    format!("{count} {thing}{plural}")
 }
 
 /// A number with the name that it has, if any.
@@ -54,9 +60,14 @@ fn record_at(bytes: &[u8], offset: usize) -> (Option<u8>, usize) {
 impl Source {
     /// An event with its name and its line.
     fn event_told(&self, number: u16) -> String {
-        let told = format!("event {}", with_name(number, &self.table.event_name(number)));
+        let told = format!(
+            "event {}",
+            with_name(number, &self.table.event_name(number))
+        );
         match self.table.events.get(usize::from(number)) {
-            Some(event) if self.is_text => format!("{told}, line {} of {}", event.place.line, self.path),
+            Some(event) if self.is_text => {
+                format!("{told}, line {} of {}", event.place.line, self.path)
+            }
             _ => format!("{told} of {}", self.path),
         }
     }
@@ -67,7 +78,9 @@ impl Source {
         if self.is_text {
             return match self.table.part_at(offset) {
                 Some(Part::Event(event)) => self.event_told(event as u16),
-                Some(Part::Start) => format!("`start:`, line {} of {path}", self.table.start_place.line),
+                Some(Part::Start) => {
+                    format!("`start:`, line {} of {path}", self.table.start_place.line)
+                }
                 _ => format!("the conditions of {path}"),
             };
         }
@@ -91,7 +104,7 @@ impl Source {
     }
 
     /// What the place of a refusal of a run of this table is.
-    pub fn step_told(&self, run: &RunSource, refusal: Refusal) -> String {
+    fn step_told(&self, run: &RunSource, refusal: Refusal) -> String {
         let called = &run.called;
         let step = refusal.place as usize;
         if !matches!(refusal.number, 10..=12 | 15) {
@@ -112,10 +125,18 @@ impl Source {
     pub fn stopped_by(&self, event: u16, marking: &[u8], number: u64) -> Option<String> {
         let event = self.table.events.get(usize::from(event))?;
         let holds = |b: &u16| marking.get(usize::from(*b)) == Some(&1);
-        let persistent = |b: &u16| self.table.conditions.get(usize::from(*b)).is_some_and(|c| c.persistent);
+        let persistent = |b: &u16| {
+            self.table
+                .conditions
+                .get(usize::from(*b))
+                .is_some_and(|c| c.persistent)
+        };
         let contact = |b: &&u16| holds(b) && !persistent(b) && !event.preconditions.contains(b);
         let (condition, why) = match number {
-            11 => (event.preconditions.iter().find(|b| !holds(b)), "does not hold"),
+            11 => (
+                event.preconditions.iter().find(|b| !holds(b)),
+                "does not hold",
+            ),
             12 => (event.postconditions.iter().find(contact), "holds already"),
             _ => (None, ""),
         };
@@ -124,30 +145,32 @@ impl Source {
     }
 
     /// A refusal of the table, told.
-    pub fn refused(&self, refusal: Refusal) -> Stop {
-        let lines = [meaning(refusal.number).to_string(), self.place_told(refusal)];
-        Stop::Refused(refusal, told(lines))
+    pub fn told(&self, refusal: Refusal) -> Told {
+        Told {
+            refusal,
+            what: meaning(refusal.number).to_string(),
+            place: self.place_told(refusal),
+        }
     }
 
     /// A refusal of a run of this table, told with the condition that stopped it, if that is known.
-    pub fn run_refused(&self, run: &RunSource, refusal: Refusal, by: Option<String>) -> Stop {
-        let mut meaning = meaning(refusal.number).to_string();
-        if let Some(by) = by {
-            meaning = format!("{meaning}: {by}");
+    pub fn run_told(&self, run: &RunSource, refusal: Refusal, by: Option<String>) -> Told {
+        let meaning = meaning(refusal.number);
+        Told {
+            refusal,
+            what: match by {
+                Some(by) => format!("{meaning}: {by}"),
+                None => meaning.to_string(),
+            },
+            place: self.step_told(run, refusal),
         }
-        Stop::Refused(refusal, told([meaning, self.step_told(run, refusal)]))
     }
 
     /// Why a call on the table gave no answer.
     pub fn failed(&self, failure: Failure) -> Stop {
         match failure {
-            Failure::Refused(refusal) => self.refused(refusal),
+            Failure::Refused(refusal) => Stop::Refused(self.told(refusal)),
             Failure::Lost(what) => Stop::Failed(format!("the library: {what}")),
         }
     }
-}
-
-/// The lines that tell a refusal: what it means, and where it is.
-fn told([meaning, place]: [String; 2]) -> Vec<String> {
-    vec![format!("  what: {meaning}"), format!("  where: {place}")]
 }

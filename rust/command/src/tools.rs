@@ -17,7 +17,9 @@ fn built(what: &str) -> Stopped<()> {
     match command.status() {
         Ok(status) if status.success() => Ok(()),
         Ok(_) => Err(Stop::Failed(format!("the {what} could not be built"))),
-        Err(error) => Err(Stop::Failed(format!("the {what} could not be built: {error}"))),
+        Err(error) => Err(Stop::Failed(format!(
+            "the {what} could not be built: {error}"
+        ))),
     }
 }
 

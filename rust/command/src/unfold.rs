@@ -7,15 +7,26 @@ use wire::{whole, Answer, Driver, START};
 
 use crate::source::{self, Source};
 use crate::stop::Stopped;
+use crate::telling::counted;
 use crate::tools;
 
 /// Room that is lent for a list at first.
 const ROOM: usize = 512;
 
+/// What an event is called: its name, or that it is an event of this number.
+fn event_called(table: &Source, event: u16) -> String {
+    let named = table
+        .table
+        .events
+        .get(usize::from(event))
+        .and_then(|e| e.name.clone());
+    named.unwrap_or_else(|| format!("event {event}"))
+}
+
 /// What a marker is called.
-fn marker_name(table: &Source, marker: u32) -> String {
+fn marker_called(table: &Source, marker: u32) -> String {
     match u16::try_from(marker) {
-        Ok(event) if marker != START => table.table.event_name(event),
+        Ok(event) if marker != START => event_called(table, event),
         _ => "start".to_string(),
     }
 }
@@ -25,8 +36,19 @@ fn chosen(table: &Source, event: u16) -> Vec<u16> {
     let Some(event) = table.table.events.get(usize::from(event)) else {
         return Vec::new();
     };
-    let persistent = |b: &&u16| table.table.conditions.get(usize::from(**b)).is_some_and(|c| c.persistent);
-    event.preconditions.iter().filter(persistent).copied().collect()
+    let persistent = |b: &&u16| {
+        table
+            .table
+            .conditions
+            .get(usize::from(**b))
+            .is_some_and(|c| c.persistent)
+    };
+    event
+        .preconditions
+        .iter()
+        .filter(persistent)
+        .copied()
+        .collect()
 }
 
 /// A line for an unfolded event: number, event, what marked each persistent precondition, and the two lists.
@@ -36,14 +58,28 @@ fn event_line(library: &mut Driver, table: &Source, number: u16) -> Answer<Strin
     let origin = library.event_origin(bytes, number, &mut markers)?;
     let pre = whole(ROOM, |out| library.unfolded_pre(bytes, number, out))?;
     let post = whole(ROOM, |out| library.unfolded_post(bytes, number, out))?;
-    let picks = chosen(table, origin.event).into_iter().zip(&markers[..origin.count]);
+    let picks = chosen(table, origin.event)
+        .into_iter()
+        .zip(&markers[..origin.count]);
     let pick = |(b, marker): (u16, &u32)| {
-        format!("{} by {}", table.table.condition_name(b), marker_name(table, *marker))
+        format!(
+            "{} by {}",
+            table.table.condition_name(b),
+            marker_called(table, *marker)
+        )
     };
     let picks: Vec<String> = picks.map(pick).collect();
-    let event = table.table.event_name(origin.event);
-    let picks = if picks.is_empty() { String::new() } else { format!(" ({})", picks.join(", ")) };
-    Ok(format!("{number}: {event}{picks}: {} -> {}", set_text(&pre), set_text(&post)))
+    let event = event_called(table, origin.event);
+    let picks = if picks.is_empty() {
+        String::new()
+    } else {
+        format!(" ({})", picks.join(", "))
+    };
+    Ok(format!(
+        "{number}: {event}{picks}: {} -> {}",
+        set_text(&pre),
+        set_text(&post)
+    ))
 }
 
 /// A line for an unfolded condition: number, condition, and for a copy its marker and its user.
@@ -53,8 +89,8 @@ fn condition_line(library: &mut Driver, table: &Source, number: u16) -> Answer<S
     Ok(match origin.copy {
         None => format!("{number}: {name}"),
         Some(copy) => {
-            let marker = marker_name(table, copy.marker);
-            let user = table.table.event_name(copy.user);
+            let marker = marker_called(table, copy.marker);
+            let user = event_called(table, copy.user);
             format!("{number}: {name} by {marker} for {user}")
         }
     })
@@ -74,16 +110,29 @@ pub fn unfold(path: &str, out: &mut impl Write) -> Stopped<()> {
     let mut library = tools::library()?;
     let told = |failure| table.failed(failure);
     let counts = library.unfolded_counts(&table.bytes).map_err(told)?;
-    writeln!(out, "{} unfolded conditions, {} unfolded events", counts.conditions, counts.events)?;
+    let conditions = counted(counts.conditions, "unfolded condition");
+    writeln!(
+        out,
+        "{conditions}, {}",
+        counted(counts.events, "unfolded event")
+    )?;
     let held = start(&mut library, &table, counts.conditions as usize).map_err(told)?;
     writeln!(out, "start: {}", set_text(&held))?;
     writeln!(out, "\nunfolded events")?;
     for number in (0..=u16::MAX).take(counts.events as usize) {
-        writeln!(out, "{}", event_line(&mut library, &table, number).map_err(told)?)?;
+        writeln!(
+            out,
+            "{}",
+            event_line(&mut library, &table, number).map_err(told)?
+        )?;
     }
     writeln!(out, "\nunfolded conditions")?;
     for number in (0..=u16::MAX).take(counts.conditions as usize) {
-        writeln!(out, "{}", condition_line(&mut library, &table, number).map_err(told)?)?;
+        writeln!(
+            out,
+            "{}",
+            condition_line(&mut library, &table, number).map_err(told)?
+        )?;
     }
     Ok(())
 }
