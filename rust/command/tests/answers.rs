@@ -1,0 +1,310 @@
+//! The command as people run it, on the examples and on files of its own. The environment names the driver (DOVETRELLIS_DRIVER) and
+//! the listing program (DOVETRELLIS_LIST), both run by the words of RATTLE_RUN.
+
+use std::fs;
+use std::path::Path;
+use std::process::Command;
+
+use command::lister::Folder;
+use second::generator::{damaged, small_net, Random};
+use second::table::table_bytes;
+
+/// The top of the repository.
+const TOP: &str = concat!(env!("CARGO_MANIFEST_DIR"), "/../..");
+
+/// What came of a command.
+struct Ran {
+    out: String,
+    err: String,
+    status: i32,
+}
+
+/// Runs the command in a folder.
+fn ran_in(folder: &Path, words: &[&str]) -> Ran {
+    let program = env!("CARGO_BIN_EXE_dovetrellis");
+    let mut command = Command::new(program);
+    command
+        .args(words)
+        .current_dir(folder)
+        .env("DOVETRELLIS_TOP", TOP);
+    let output = command.env_remove("DOVETRELLIS_SCRIPT").output().unwrap();
+    Ran {
+        out: String::from_utf8(output.stdout).unwrap(),
+        err: String::from_utf8(output.stderr).unwrap(),
+        status: output.status.code().unwrap(),
+    }
+}
+
+/// Runs the command among the examples.
+fn ran(words: &[&str]) -> Ran {
+    ran_in(&Path::new(TOP).join("examples"), words)
+}
+
+/// What a command that must be fine writes.
+fn fine(words: &[&str]) -> String {
+    let ran = ran(words);
+    assert_eq!(
+        (ran.status, ran.err.as_str()),
+        (0, ""),
+        "{words:?}: {}",
+        ran.out
+    );
+    ran.out
+}
+
+/// What a command says that must end with a status and write nothing else.
+fn ends(words: &[&str], status: i32) -> String {
+    let ran = ran(words);
+    assert_eq!(
+        (ran.status, ran.out.as_str()),
+        (status, ""),
+        "{words:?}: {}",
+        ran.err
+    );
+    ran.err
+}
+
+/// The refusal and what is said of it.
+fn refused(folder: &Path, words: &[&str]) -> (String, String) {
+    let ran = ran_in(folder, words);
+    assert_eq!(ran.status, 1, "{words:?}: {}{}", ran.out, ran.err);
+    (ran.out, ran.err)
+}
+
+const LISTING: &str = "start 0\n0 0 0 1,2\n1 1 2 2,3\n2 2 3 1,2\n3 1 2 2,3\nend unfolded 3,4\n";
+
+#[test]
+fn help_and_wrong_use() {
+    assert!(fine(&["help"]).contains("dovetrellis judge TABLE"));
+    assert_eq!(fine(&[]), fine(&["--help"]));
+    for (words, said) in [
+        (&["jugde"][..], "there is no command 'jugde'"),
+        (&["judge"], "TABLE is missing"),
+        (&["judge", "net-a.txt", "x"], "'x' is one word too many"),
+        (&["list", "a", "b", "c"], "'c' is one word too many"),
+        (&["pack", "net-a.txt", "-o"], "a folder is missing after -o"),
+        (&["list", "limits-over.txt"], "limits-over.txt has no run, so RUN must be given"),
+        (&["list", "net-a.txt", "rond"], "'rond' is neither a run nor a file; the runs of net-a.txt are: round, empty, early, unknown"),
+        (&["show", "net-a.txt", "net-b.txt"], "net-b.txt is text; a run is a record file, or the name of a run in a text table"),
+    ] {
+        assert_eq!(ends(words, 2), format!("dovetrellis: {said}\n'dovetrellis help' tells the commands\n"));
+    }
+    assert!(ends(&["judge", "nothing.txt"], 2).starts_with("dovetrellis: nothing.txt: "));
+}
+
+#[test]
+fn a_text_that_is_no_table_is_told() {
+    let folder = Folder::new().unwrap();
+    folder
+        .write("bad.txt", b"conditions: a\nx: {b} -> {}\nstart: {}\n")
+        .unwrap();
+    let said = "dovetrellis: bad.txt: line 2, column 5: expected the name or number of a condition, found `b`, which is none\n";
+    for command in ["judge", "unfold", "pack", "show", "list"] {
+        let ran = ran_in(folder.path(), &[command, "bad.txt"]);
+        assert_eq!(
+            (ran.status, ran.out.as_str(), ran.err.as_str()),
+            (1, "", said),
+            "{command}"
+        );
+    }
+}
+
+#[test]
+fn the_example_is_listed() {
+    assert_eq!(fine(&["list"]), LISTING);
+    assert_eq!(fine(&["list", "net-a.txt"]), LISTING);
+    assert_eq!(
+        fine(&["list", "net-a.txt", "empty"]),
+        "start 0\nend unfolded 0\n"
+    );
+    assert!(fine(&["list", "net-e.txt", "second"]).ends_with("\n2 2 4 2\nend unfolded 3,4\n"));
+}
+
+#[test]
+fn the_changeover_is_listed() {
+    let night = fine(&["list", "changeover.txt"]);
+    for line in [
+        "6 11 1034 0,4,7,8,9,10,15,16",
+        "12 10 1033 1,5,7,8,9,10,11,12,13,14,15,16",
+    ] {
+        assert!(night.contains(&format!("\n{line}\n")), "{night}");
+    }
+    let both = fine(&["list", "changeover-wrong.txt"]);
+    assert!(
+        both.contains("\n11 10 1033 0,5,7,8,9,10,11,12,13,14,15,16\n"),
+        "{both}"
+    );
+}
+
+#[test]
+fn refused_runs_are_told() {
+    let examples = Path::new(TOP).join("examples");
+    let (out, err) = refused(&examples, &["list", "changeover.txt", "hasty"]);
+    assert_eq!(out, "refused 11 at 11\n");
+    assert_eq!(
+        err,
+        "  what: a precondition of the event does not hold: condition 13 `reference-locked` does not hold\n  \
+         where: step 11 of run `hasty`, counted from 0: event 10 `connect-b`, line 53, column 16 of changeover.txt\n"
+    );
+    let (out, err) = refused(&examples, &["list", "changeover.txt", "careful"]);
+    assert_eq!(out, "refused 15 at 3\n");
+    assert!(
+        err.contains(
+            "step 3 of run `careful`, counted from 0: event 0 `set-time`, line 56, column 34"
+        ),
+        "{err}"
+    );
+    let (out, err) = refused(&examples, &["list", "unused.txt"]);
+    assert_eq!(out, "refused 13 at 0\n");
+    assert!(
+        err.contains("where: event 0, line 5 of unused.txt\n"),
+        "{err}"
+    );
+}
+
+#[test]
+fn every_example_is_judged() {
+    let judged = |name: &str| fine(&["judge", name]);
+    assert_eq!(
+        judged("net-e.txt"),
+        "accepted: 3 conditions and 3 events\nunfolds to 5 conditions and 5 events\n\
+         run `first`: 3 steps, ends in {2}, lifts\nrun `second`: 3 steps, ends in {2}, lifts\n"
+    );
+    assert!(judged("net-d.txt").contains("unfolds to 31 conditions and 1035 events\n"));
+    assert!(judged("limits.txt").contains(" and 65535 events\n"));
+    assert!(judged("limits-over.txt").contains("does not unfold: refused 14 at 0\n"));
+    assert!(judged("changeover.txt").contains("unfolds to 27 conditions and 1037 events\n"));
+    assert!(judged("changeover.txt").contains(": condition 13 `reference-locked` does not hold\n"));
+    assert!(judged("unused.txt").contains(
+        "run `once`: 1 step, ends in {0}, does not lift, as the table does not unfold\n"
+    ));
+    for name in ["net-b.txt", "net-c.txt"] {
+        let told = judged(name);
+        assert!(
+            told.contains("run `twice`: 2 steps, ends in {0")
+                && told.contains(", does not lift: refused 15 at 1\n")
+        );
+    }
+}
+
+#[test]
+fn net_a_is_unfolded() {
+    let expected = "5 unfolded conditions, 4 unfolded events\nstart: {0}\n\nunfolded events\n\
+        0: event 0: {0} -> {1, 3}\n1: event 1 (2 by start): {1, 2} -> {2, 4}\n\
+        2: event 1 (2 by event 0): {1, 3} -> {3, 4}\n3: event 2: {4} -> {1}\n\nunfolded conditions\n\
+        0: 0\n1: 1\n2: 2 by start for event 1\n3: 2 by event 0 for event 1\n4: 3\n";
+    assert_eq!(fine(&["unfold", "net-a.txt"]), expected);
+    assert!(fine(&["unfold", "net-d.txt"]).contains("\n1034: event 11: {30} -> {}\n"));
+}
+
+#[test]
+fn what_is_packed_is_shown() {
+    let folder = Folder::new().unwrap();
+    let at = folder.path();
+    let example = format!("{TOP}/examples/net-a.txt");
+    let ran = ran_in(at, &["pack", &example, "-o", "packed"]);
+    let written = "packed/net-a.net.bin (54 bytes)\npacked/net-a.round.run.bin (12 bytes)\npacked/net-a.empty.run.bin (4 bytes)\n\
+        packed/net-a.early.run.bin (8 bytes)\npacked/net-a.unknown.run.bin (8 bytes)\n";
+    assert_eq!((ran.status, ran.out.as_str()), (0, written), "{}", ran.err);
+    let (net, round) = ("packed/net-a.net.bin", "packed/net-a.round.run.bin");
+    assert_eq!(ran_in(at, &["list", net, round]).out, LISTING);
+    let shown = ran_in(at, &["show", net, round]).out;
+    assert!(
+        shown.ends_with("\nstart: {0}\n\nrun: 0, 1, 2, 1\n"),
+        "{shown}"
+    );
+    folder.write("again.txt", shown.as_bytes()).unwrap();
+    assert_eq!(ran_in(at, &["pack", "again.txt"]).status, 0);
+    let read = |name: &str| fs::read(at.join(name)).unwrap();
+    assert_eq!(read("again.net.bin"), read(net));
+    assert_eq!(read("again.0.run.bin"), read(round));
+}
+
+#[test]
+fn refusals_of_a_text_name_its_lines() {
+    let folder = Folder::new().unwrap();
+    for (text, line, place) in [
+        (
+            "conditions:\nstart: {}\n",
+            "refused 3 at 0\n",
+            "the conditions of t.txt\n",
+        ),
+        (
+            "conditions: a\nx: {a} -> {1}\nstart: {}\n",
+            "refused 5 at 5\n",
+            "event 0 `x`, line 2 of t.txt\n",
+        ),
+        (
+            "conditions: a\n0: {} -> {}\nstart: {}\n",
+            "refused 7 at 5\n",
+            "event 0, line 2 of t.txt\n",
+        ),
+        (
+            "conditions: a\nstart: {a, 7}\n",
+            "refused 5 at 5\n",
+            "`start:`, line 2 of t.txt\n",
+        ),
+        (
+            "conditions: 0..16 [p]\n\nx: {0} -> {}\ny: {0..16} -> {}\nstart: {}\n",
+            "refused 8 at 31\n",
+            "event 1 `y`, line 4 of t.txt\n",
+        ),
+    ] {
+        folder.write("t.txt", text.as_bytes()).unwrap();
+        for command in ["judge", "unfold", "show"] {
+            let (out, err) = refused(folder.path(), &[command, "t.txt"]);
+            assert_eq!(out, line, "{text}");
+            assert!(err.ends_with(&format!("\n  where: {place}")), "{err}");
+        }
+        let (out, _) = refused(folder.path(), &["pack", "t.txt"]);
+        assert!(
+            out.starts_with("./t.net.bin (") && out.ends_with(line),
+            "{out}"
+        );
+    }
+}
+
+#[test]
+fn files_of_records_are_told_by_their_bytes() {
+    let folder = Folder::new().unwrap();
+    let mut random = Random::new(2026);
+    for _ in 0..200 {
+        let mut net = small_net(&mut random);
+        net.events.push(second::table::Event {
+            preconditions: vec![0],
+            postconditions: vec![],
+        });
+        folder.write("t.bin", &table_bytes(&net)).unwrap();
+        assert_eq!(ran_in(folder.path(), &["judge", "t.bin"]).status, 0);
+        let broken = damaged(&mut random, &net);
+        folder.write("t.bin", &broken.bytes).unwrap();
+        let ran = ran_in(folder.path(), &["judge", "t.bin"]);
+        if text::is_text(&broken.bytes) {
+            continue;
+        }
+        let (number, place) = (broken.refusal.number, broken.refusal.place);
+        assert_eq!(
+            (ran.status, ran.out),
+            (1, format!("refused {number} at {place}\n"))
+        );
+        assert!(
+            ran.err.contains(&format!("  where: byte {place} of t.bin")),
+            "{}",
+            ran.err
+        );
+    }
+}
+
+#[test]
+fn a_run_that_is_refused_is_not_taken_for_the_table() {
+    let folder = Folder::new().unwrap();
+    folder.write("odd.bin", &[1, 0, 4, 0, 0]).unwrap();
+    folder.write("cut.bin", &[4, 0, 4, 0, 0]).unwrap();
+    let net = format!("{TOP}/examples/net-a.txt");
+    let (out, err) = refused(folder.path(), &["list", &net, "odd.bin"]);
+    assert_eq!(out, "refused 3 at 0\n");
+    assert!(err.ends_with("  where: odd.bin\n"), "{err}");
+    let (out, err) = refused(folder.path(), &["list", &net, "cut.bin"]);
+    assert_eq!(out, "refused 1 at 0\n");
+    assert!(err.ends_with("  where: cut.bin\n"), "{err}");
+}
