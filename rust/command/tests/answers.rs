@@ -162,6 +162,40 @@ fn refused_runs_are_told() {
     );
 }
 
+/// What stands between the fences of a page, in order.
+fn blocks(page: &str) -> Vec<String> {
+    let text = fs::read_to_string(Path::new(TOP).join(page)).unwrap();
+    text.split("```\n")
+        .skip(1)
+        .step_by(2)
+        .map(String::from)
+        .collect()
+}
+
+#[test]
+fn the_pages_show_what_the_command_writes() {
+    let top = Path::new(TOP);
+    let story = blocks("examples/README.md");
+    assert_eq!(
+        ran_in(top, &["list", "examples/changeover.txt", "night"]).out,
+        story[0]
+    );
+    let (out, err) = refused(top, &["list", "examples/changeover.txt", "hasty"]);
+    assert_eq!(out.clone() + &err, story[1]);
+    let shown = |line: &str| format!("    {line}\n");
+    let indented: String = (out + &err).lines().map(shown).collect();
+    let readme = fs::read_to_string(top.join("README.md")).unwrap();
+    assert!(readme.contains(&indented), "{indented}");
+    let readme = blocks("README.md");
+    assert_eq!(readme[0], LISTING);
+    let folder = Folder::new().unwrap();
+    folder.write("t.txt", readme[1].as_bytes()).unwrap();
+    assert_eq!(
+        ran_in(folder.path(), &["list", "t.txt", "night"]).out,
+        LISTING
+    );
+}
+
 #[test]
 fn every_example_is_judged() {
     let judged = |name: &str| fine(&["judge", name]);

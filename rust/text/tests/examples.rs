@@ -177,3 +177,26 @@ fn the_wrong_changeover() {
     assert_eq!(both.last(), Some(&1033));
     assert_eq!(behind(&table, 1033 % 1024), "sign-in");
 }
+
+#[test]
+fn the_page_of_the_notation() {
+    let path = format!("{}/../../docs/TEXT.md", env!("CARGO_MANIFEST_DIR"));
+    let page = fs::read_to_string(path).unwrap();
+    let blocks: Vec<&str> = page.split("```\n").collect();
+    let named = read(blocks[1].as_bytes()).unwrap();
+    let shown = Table::of_bytes(&named.bytes()).unwrap().text();
+    assert_eq!(shown, blocks[3]);
+    let misspelt = blocks[1].replace("b-warm, key-loaded}", "b-warm, key-loded}");
+    let trouble = read(misspelt.as_bytes()).unwrap_err();
+    assert_eq!(format!("night.txt: {trouble}\n"), blocks[5]);
+}
+
+#[test]
+fn events_share_numbers_in_ten_bits() {
+    let table = example("changeover.txt");
+    let shared: Vec<(String, String)> = (1024..1037)
+        .map(|number| (behind(&table, number), behind(&table, number - 1024)))
+        .collect();
+    assert_eq!(shared.len(), 13);
+    assert!(shared.iter().all(|(one, other)| one != other));
+}
