@@ -27,8 +27,7 @@ fn main() -> ExitCode {
     match done {
         Ok(()) => ExitCode::SUCCESS,
         Err(stop) => {
-            let _ = out.flush();
-            stop.tell();
+            stop.tell(&mut out);
             ExitCode::from(stop.status())
         }
     }

@@ -1,6 +1,6 @@
 //! Why a command ends without its answer, what is said then, and the exit status.
 
-use std::io;
+use std::io::{self, Write};
 
 use wire::Refusal;
 
@@ -44,10 +44,11 @@ pub type Stopped<T> = Result<T, Stop>;
 
 impl Stop {
     /// Says what happened: a refusal's one line goes to the output, everything else to the error output.
-    pub fn tell(&self) {
+    pub fn tell(&self, out: &mut impl Write) {
         match self {
             Stop::Refused(told) => {
-                println!("{}", told.line());
+                // where nobody reads the line there is nothing left to say it to
+                let _ = writeln!(out, "{}", told.line()).and_then(|()| out.flush());
                 eprintln!("{}", told.words());
             }
             Stop::Text(line) | Stop::Failed(line) => eprintln!("dovetrellis: {line}"),

@@ -90,7 +90,21 @@ impl Source {
             (Some(3), _) => "the Marking record".to_string(),
             (_, before) => format!("record {before}, counted from 0"),
         };
-        format!("byte {offset} of {path}, {record}")
+        format!("byte {offset} of {path}, {record}{}", self.why_records())
+    }
+
+    /// Why a file without a byte 0, which every table has, was not taken as text.
+    fn why_records(&self) -> String {
+        let control = self
+            .bytes
+            .iter()
+            .position(|byte| *byte < 0x20 && !byte.is_ascii_whitespace());
+        match control {
+            Some(at) if !self.bytes.contains(&0) => {
+                format!("; it is not taken as text, since byte {at} is a control character")
+            }
+            _ => String::new(),
+        }
     }
 
     /// What the place of a refusal of the table is.

@@ -7,8 +7,9 @@ use wire::Driver;
 
 use crate::stop::{Stop, Stopped};
 
-/// Has the script build something if it is not built yet; a caller without the script has built it already.
-fn built(what: &str) -> Stopped<()> {
+/// Has the script build something if it is not built yet, and says so by a name where it cannot; a caller without the script has
+/// built it already.
+fn built(what: &str, name: &str) -> Stopped<()> {
     let Some(script) = std::env::var_os("DOVETRELLIS_SCRIPT") else {
         return Ok(());
     };
@@ -16,22 +17,20 @@ fn built(what: &str) -> Stopped<()> {
     command.args(["build", what]).stdin(Stdio::null());
     match command.status() {
         Ok(status) if status.success() => Ok(()),
-        Ok(_) => Err(Stop::Failed(format!("the {what} could not be built"))),
-        Err(error) => Err(Stop::Failed(format!(
-            "the {what} could not be built: {error}"
-        ))),
+        Ok(_) => Err(Stop::Failed(format!("{name} was not built"))),
+        Err(error) => Err(Stop::Failed(format!("{name} was not built: {error}"))),
     }
 }
 
 /// The proved library.
 pub fn library() -> Stopped<Driver> {
-    built("library")?;
+    built("library", "the library")?;
     Driver::open().map_err(|error| Stop::Failed(error.to_string()))
 }
 
 /// The command that runs the proved program `list`.
 pub fn list_program() -> Stopped<Command> {
-    built("list")?;
+    built("list", "the program 'list'")?;
     let missing = || Stop::Failed("DOVETRELLIS_LIST names no listing program".to_string());
     let program = std::env::var("DOVETRELLIS_LIST").map_err(|_| missing())?;
     let runner = std::env::var("RATTLE_RUN").unwrap_or_default();
