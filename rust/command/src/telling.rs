@@ -95,11 +95,7 @@ impl Source {
 
     /// Why a file without a byte 0, which every table has, was not taken as text.
     fn why_records(&self) -> String {
-        let control = self
-            .bytes
-            .iter()
-            .position(|byte| *byte < 0x20 && !byte.is_ascii_whitespace());
-        match control {
+        match text::control_at(&self.bytes) {
             Some(at) if !self.bytes.contains(&0) => {
                 format!("; it is not taken as text, since byte {at} is a control character")
             }

@@ -330,6 +330,22 @@ fn files_of_records_are_told_by_their_bytes() {
 }
 
 #[test]
+fn text_with_a_control_character_is_told() {
+    let folder = Folder::new().unwrap();
+    folder
+        .write("t.txt", b"conditions: a\x0c\nstart: {}\n")
+        .unwrap();
+    let (out, err) = refused(folder.path(), &["judge", "t.txt"]);
+    assert_eq!(out, "refused 1 at 0\n");
+    assert!(
+        err.ends_with(
+            "the first record; it is not taken as text, since byte 13 is a control character\n"
+        ),
+        "{err}"
+    );
+}
+
+#[test]
 fn a_run_that_is_refused_is_not_taken_for_the_table() {
     let folder = Folder::new().unwrap();
     folder.write("odd.bin", &[1, 0, 4, 0, 0]).unwrap();
