@@ -17,21 +17,29 @@ pub enum Asked {
 pub const HELP: &str = "\
 dovetrellis: net tables with persistent conditions
 
-  dovetrellis list [TABLE [RUN]]    list a run: the start, each step with its event, its unfolded event and the marking after it,
-                                    and the end in the unfolded net. Without words: the run of examples/net-a.txt. RUN is a
-                                    file, or the name of a run in a text table; without it, the text's first run
-  dovetrellis judge TABLE           judge a table, count its unfolding, and try the runs that a text table has
-  dovetrellis unfold TABLE          write the unfolding: its counts, then each unfolded event with its number, its event, the
-                                    markers that it picks and its two lists, then each unfolded condition
-  dovetrellis pack FILE [-o FOLDER] turn a text table into records: NAME.net.bin, and NAME.RUN.run.bin for each run
-  dovetrellis show TABLE [RUN...]   write a table, and runs of it, as text that packs to the same bytes
-  dovetrellis build                 build the library and the programs now; the other commands build what they need
-  dovetrellis help                  this
+  dovetrellis list [TABLE [RUN]]  list a run: the start, each step with its event, its unfolded
+                                  event and the marking after it, and the end in the unfolded net.
+                                  RUN is a file, or the name of a run in a text table; without it,
+                                  the text's first run. Without TABLE: examples/net-a.txt
+  dovetrellis judge TABLE         judge a table, count its unfolding, and try the runs that stand
+                                  with it in a text
+  dovetrellis unfold TABLE        write the unfolding: its counts and start, then each unfolded event
+                                  with its number, its event, the marker that it picks for each
+                                  persistent precondition, and its two lists, then each unfolded
+                                  condition with its condition, marker and user
+  dovetrellis pack FILE [-o FOLDER]
+                                  turn a text table into records: NAME.net.bin, and
+                                  NAME.RUN.run.bin for each run
+  dovetrellis show TABLE [RUN...] write a table, and runs of it, as text that packs to the same bytes
+  dovetrellis build [WHAT...]     build 'library' and 'list' now; other commands build what they need
+  dovetrellis help                this
 
-TABLE is a file of records (docs/FORMAT.md) or a text table (docs/TEXT.md); which of the two it is, is seen from its bytes.
-What is refused is answered by one line, 'refused NUMBER at PLACE', and what that means is said beside it (docs/REFUSALS.md).
+TABLE is a file of records (docs/FORMAT.md) or a text table (docs/TEXT.md); its bytes tell which.
+What is refused is answered by one line, 'refused NUMBER at PLACE', and what that means is said
+beside it, on the error output (docs/REFUSALS.md has the list).
 
-Exit status: 0 fine; 1 refused, or a text that is no table; 2 wrong use, or something that is needed could not be read or built.
+Exit status: 0 fine; 1 refused, or a text that is no table; 2 wrong use, or something that is
+needed could not be read or built.
 ";
 
 /// The words after the command's name are one, two or more: the first, and the others.

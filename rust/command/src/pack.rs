@@ -63,13 +63,16 @@ fn steps_of(
 /// Writes a table and runs of it as text.
 pub fn show(path: &str, runs: &[String], out: &mut impl Write) -> Stopped<()> {
     let mut table = source::read(path)?;
+    let runs: Vec<RunSource> = runs
+        .iter()
+        .map(|run| read_run(run))
+        .collect::<Stopped<_>>()?;
     let mut library = tools::library()?;
     library
         .judge(&table.bytes)
         .map_err(|failure| table.failed(failure))?;
-    for run in runs {
-        let run = read_run(run)?;
-        let steps = steps_of(&mut library, &table, &run)?;
+    for run in &runs {
+        let steps = steps_of(&mut library, &table, run)?;
         table.table.runs.push(text::Run {
             steps,
             ..text::Run::default()

@@ -21,6 +21,12 @@ struct Ran {
 
 /// Runs the command in a folder.
 fn ran_in(folder: &Path, words: &[&str]) -> Ran {
+    for named in ["DOVETRELLIS_DRIVER", "DOVETRELLIS_LIST"] {
+        assert!(
+            std::env::var_os(named).is_some(),
+            "{named} names a program, as .ci/run does"
+        );
+    }
     let program = env!("CARGO_BIN_EXE_dovetrellis");
     let mut command = Command::new(program);
     command
