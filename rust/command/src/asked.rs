@@ -22,7 +22,7 @@ dovetrellis: net tables with persistent conditions
                                   RUN is a file, or the name of a run in a text table; without it,
                                   the text's first run. Without TABLE: examples/net-a.txt
   dovetrellis judge TABLE         judge a table, count its unfolding, and try the runs that stand
-                                  with it in a text
+                                  with it in a text; the exit status tells of the table alone
   dovetrellis unfold TABLE        write the unfolding: its counts and start, then each unfolded event
                                   with its number, its event, the marker that it picks for each
                                   persistent precondition, and its two lists, then each unfolded

@@ -38,6 +38,10 @@ fn bytes_of(path: &str) -> Stopped<Vec<u8>> {
 /// The table of a text file.
 pub fn read_text(path: &str) -> Stopped<Source> {
     let given = bytes_of(path)?;
+    if let Some(at) = text::control_at(&given) {
+        let what = format!("byte {at} is a control character, so this is no text");
+        return Err(Stop::Text(format!("{path}: {what}")));
+    }
     let table = text::read(&given).map_err(|trouble| Stop::Text(format!("{path}: {trouble}")))?;
     Ok(Source {
         path: path.to_string(),

@@ -349,6 +349,12 @@ fn text_with_a_control_character_is_told() {
         ),
         "{err}"
     );
+    let packed = ran_in(folder.path(), &["pack", "t.txt"]);
+    let said = "dovetrellis: t.txt: byte 13 is a control character, so this is no text\n";
+    assert_eq!(
+        (packed.status, packed.out.as_str(), packed.err.as_str()),
+        (1, "", said)
+    );
 }
 
 #[test]
