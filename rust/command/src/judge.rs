@@ -6,7 +6,7 @@ use wire::{Driver, Failure, Refusal};
 
 use crate::source::{self, RunSource, Source};
 use crate::stop::{Stop, Stopped, Told};
-use crate::telling::counted;
+use crate::telling::{counted, held};
 use crate::tools;
 
 /// What is refused, in words on lines of their own.
@@ -47,12 +47,6 @@ fn run_told(
         by = table.stopped_by(*event, &marking, refusal.number);
     }
     Ok(table.run_told(run, refusal, by))
-}
-
-/// The conditions that hold in a marking.
-fn held(marking: &[u8]) -> Vec<u16> {
-    let held = (0..=u16::MAX).zip(marking).filter(|(_, held)| **held == 1);
-    held.map(|(number, _)| number).collect()
 }
 
 /// How a run of a table fares: whether it plays, where it ends, and whether it lifts.

@@ -32,6 +32,12 @@ pub fn meaning(number: u64) -> &'static str {
     }
 }
 
+/// The conditions that hold in a marking.
+pub fn held(marking: &[u8]) -> Vec<u16> {
+    let held = (0..=u16::MAX).zip(marking).filter(|(_, held)| **held == 1);
+    held.map(|(number, _)| number).collect()
+}
+
 /// So many things of a kind, in words.
 pub fn counted(count: u64, thing: &str) -> String {
     let plural = if count == 1 { "" } else { "s" };
@@ -135,14 +141,10 @@ impl Source {
     pub fn stopped_by(&self, event: u16, marking: &[u8], number: u64) -> Option<String> {
         let event = self.table.events.get(usize::from(event))?;
         let holds = |b: &u16| marking.get(usize::from(*b)) == Some(&1);
-        let persistent = |b: &u16| {
-            self.table
-                .conditions
-                .get(usize::from(*b))
-                .is_some_and(|c| c.persistent)
+        let contact = |b: &&u16| {
+            holds(b) && !self.table.is_persistent(**b) && !event.preconditions.contains(b)
         };
-        let contact = |b: &&u16| holds(b) && !persistent(b) && !event.preconditions.contains(b);
-        let (condition, why) = match number {
+        let (stopping, why) = match number {
             11 => (
                 event.preconditions.iter().find(|b| !holds(b)),
                 "does not hold",
@@ -150,8 +152,9 @@ impl Source {
             12 => (event.postconditions.iter().find(contact), "holds already"),
             _ => (None, ""),
         };
-        let name = self.table.condition_name(*condition?);
-        Some(format!("condition {} {why}", with_name(*condition?, &name)))
+        let condition = *stopping?;
+        let name = self.table.condition_name(condition);
+        Some(format!("condition {} {why}", with_name(condition, &name)))
     }
 
     /// A refusal of the table, told.

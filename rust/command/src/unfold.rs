@@ -7,7 +7,7 @@ use wire::{whole, Answer, Driver, START};
 
 use crate::source::{self, Source};
 use crate::stop::Stopped;
-use crate::telling::counted;
+use crate::telling::{counted, held};
 use crate::tools;
 
 /// Room that is lent for a list at first.
@@ -15,12 +15,9 @@ const ROOM: usize = 512;
 
 /// What an event is called: its name, or that it is an event of this number.
 fn event_called(table: &Source, event: u16) -> String {
-    let named = table
-        .table
-        .events
-        .get(usize::from(event))
-        .and_then(|e| e.name.clone());
-    named.unwrap_or_else(|| format!("event {event}"))
+    let stated = table.table.events.get(usize::from(event));
+    let name = stated.and_then(|event| event.name.clone());
+    name.unwrap_or_else(|| format!("event {event}"))
 }
 
 /// What a marker is called.
@@ -31,24 +28,25 @@ fn marker_called(table: &Source, marker: u32) -> String {
     }
 }
 
-/// The persistent preconditions of an event.
-fn chosen(table: &Source, event: u16) -> Vec<u16> {
-    let Some(event) = table.table.events.get(usize::from(event)) else {
-        return Vec::new();
+/// What marked each persistent precondition of an event, in brackets; nothing where it has none.
+fn picks(table: &Source, event: u16, markers: &[u32]) -> String {
+    let stated = table.table.events.get(usize::from(event));
+    let preconditions = stated.map_or(&[][..], |event| &event.preconditions);
+    let persistent = |b: &&u16| table.table.is_persistent(**b);
+    let pick = |(b, marker): (&u16, &u32)| {
+        let condition = table.table.condition_name(*b);
+        format!("{condition} by {}", marker_called(table, *marker))
     };
-    let persistent = |b: &&u16| {
-        table
-            .table
-            .conditions
-            .get(usize::from(**b))
-            .is_some_and(|c| c.persistent)
-    };
-    event
-        .preconditions
+    let picked = preconditions
         .iter()
         .filter(persistent)
-        .copied()
-        .collect()
+        .zip(markers)
+        .map(pick);
+    let picked: Vec<String> = picked.collect();
+    if picked.is_empty() {
+        return String::new();
+    }
+    format!(" ({})", picked.join(", "))
 }
 
 /// A line for an unfolded event: number, event, what marked each persistent precondition, and the two lists.
@@ -58,28 +56,10 @@ fn event_line(library: &mut Driver, table: &Source, number: u16) -> Answer<Strin
     let origin = library.event_origin(bytes, number, &mut markers)?;
     let pre = whole(ROOM, |out| library.unfolded_pre(bytes, number, out))?;
     let post = whole(ROOM, |out| library.unfolded_post(bytes, number, out))?;
-    let picks = chosen(table, origin.event)
-        .into_iter()
-        .zip(&markers[..origin.count]);
-    let pick = |(b, marker): (u16, &u32)| {
-        format!(
-            "{} by {}",
-            table.table.condition_name(b),
-            marker_called(table, *marker)
-        )
-    };
-    let picks: Vec<String> = picks.map(pick).collect();
     let event = event_called(table, origin.event);
-    let picks = if picks.is_empty() {
-        String::new()
-    } else {
-        format!(" ({})", picks.join(", "))
-    };
-    Ok(format!(
-        "{number}: {event}{picks}: {} -> {}",
-        set_text(&pre),
-        set_text(&post)
-    ))
+    let picks = picks(table, origin.event, &markers);
+    let (pre, post) = (set_text(&pre), set_text(&post));
+    Ok(format!("{number}: {event}{picks}: {pre} -> {post}"))
 }
 
 /// A line for an unfolded condition: number, condition, and for a copy its marker and its user.
@@ -100,8 +80,7 @@ fn condition_line(library: &mut Driver, table: &Source, number: u16) -> Answer<S
 fn start(library: &mut Driver, table: &Source, conditions: usize) -> Answer<Vec<u16>> {
     let mut marking = vec![0; conditions];
     library.unfolded_start(&table.bytes, &mut marking)?;
-    let held = (0..=u16::MAX).zip(&marking).filter(|(_, held)| **held == 1);
-    Ok(held.map(|(number, _)| number).collect())
+    Ok(held(&marking))
 }
 
 /// Writes the unfolding of a table.
@@ -111,28 +90,18 @@ pub fn unfold(path: &str, out: &mut impl Write) -> Stopped<()> {
     let told = |failure| table.failed(failure);
     let counts = library.unfolded_counts(&table.bytes).map_err(told)?;
     let conditions = counted(counts.conditions, "unfolded condition");
-    writeln!(
-        out,
-        "{conditions}, {}",
-        counted(counts.events, "unfolded event")
-    )?;
+    let events = counted(counts.events, "unfolded event");
     let held = start(&mut library, &table, counts.conditions as usize).map_err(told)?;
-    writeln!(out, "start: {}", set_text(&held))?;
+    writeln!(out, "{conditions}, {events}\nstart: {}", set_text(&held))?;
     writeln!(out, "\nunfolded events")?;
     for number in (0..=u16::MAX).take(counts.events as usize) {
-        writeln!(
-            out,
-            "{}",
-            event_line(&mut library, &table, number).map_err(told)?
-        )?;
+        let line = event_line(&mut library, &table, number).map_err(told)?;
+        writeln!(out, "{line}")?;
     }
     writeln!(out, "\nunfolded conditions")?;
     for number in (0..=u16::MAX).take(counts.conditions as usize) {
-        writeln!(
-            out,
-            "{}",
-            condition_line(&mut library, &table, number).map_err(told)?
-        )?;
+        let line = condition_line(&mut library, &table, number).map_err(told)?;
+        writeln!(out, "{line}")?;
     }
     Ok(())
 }

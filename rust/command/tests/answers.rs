@@ -336,6 +336,27 @@ fn files_of_records_are_told_by_their_bytes() {
 }
 
 #[test]
+fn contact_is_told_by_its_condition() {
+    let folder = Folder::new().unwrap();
+    let text = b"conditions: a, b, c [p]\nx: {a} -> {c, b}\nstart: {a, b, c}\nrun r: x\n";
+    folder.write("t.txt", text).unwrap();
+    let (out, err) = refused(folder.path(), &["list", "t.txt"]);
+    assert_eq!(out, "refused 12 at 0\n");
+    assert!(
+        err.contains("preconditions: condition 1 `b` holds already\n"),
+        "{err}"
+    );
+    let judged = ran_in(folder.path(), &["judge", "t.txt"]);
+    assert!(
+        judged
+            .out
+            .contains("preconditions: condition 1 `b` holds already\n"),
+        "{}",
+        judged.out
+    );
+}
+
+#[test]
 fn text_with_a_control_character_is_told() {
     let folder = Folder::new().unwrap();
     folder

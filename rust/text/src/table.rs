@@ -53,6 +53,12 @@ impl Table {
         named(condition.map(|c| &c.name), number)
     }
 
+    /// A condition that the table has is persistent.
+    pub fn is_persistent(&self, number: u16) -> bool {
+        let condition = self.conditions.get(usize::from(number));
+        condition.is_some_and(|c| c.persistent)
+    }
+
     /// What an event is called: its name, or its number where it has none.
     pub fn event_name(&self, number: u16) -> String {
         let event = self.events.get(usize::from(number));
