@@ -1,5 +1,6 @@
 //! The command `dovetrellis`: lists, judges, unfolds, packs and shows tables. Every answer comes from the proved library, asked over
-//! its driver, or from the proved program `list`; this crate finds the files and words what comes back.
+//! its driver, or from the proved program `list`; this crate finds the files, turns text into records and words what comes back. Only
+//! the condition that stopped a step it looks up by itself, in the marking that they gave.
 
 pub mod asked;
 pub mod judge;
