@@ -30,8 +30,10 @@ use Rattle.firing.specs.Calls.{unfoldedFireOf, unfoldedFiredOf}
 use Rattle.lift.specs.Calls.{liftOf, liftedOf}
 use Rattle.ends.specs.Calls.{liftEndOf, liftEndedOf, unfoldedReplayOf, unfoldedReplayedOf}
 use Rattle.project.specs.Calls.{projectOf, projectedOf}
-use Rattle.promises.specs.Refused.{ofNumbering, ofListing, ofStart, ofUnfoldedFiring, ofLift, ofProject, ofTable, ofAsking, ofFiring, ofReplay, ofReplayFrom, ofExchange, ofUnfolding, ofReading, ofWriting, listed, Refusing}
-use Rattle.promises.proofs.Refused.{listed-need, judge-listed, judged-listed, firing-listed, replay-listed, replay-from-listed, exchange-listed, unfolding-of-listed, listing-listed, unfolded-start-listed, unfolded-fire-listed, lift-listed, lift-end-listed, project-listed, unfolded-replay-listed, read-listed, write-listed}
+use Rattle.asking.specs.Calls.{preconditionsOf, preconditionsInto, postconditionsOf, postconditionsInto, startOf, startInto}
+use Rattle.listing.specs.Calls.{pieceOf, filesOf}
+use Rattle.promises.specs.Refused.{ofList, ofTableStart, ofFiles, ofPiece, ofNumbering, ofListing, ofStart, ofUnfoldedFiring, ofLift, ofProject, ofTable, ofAsking, ofFiring, ofReplay, ofReplayFrom, ofExchange, ofUnfolding, ofReading, ofWriting, listed, Refusing}
+use Rattle.promises.proofs.Refused.{listed-need, judge-listed, judged-listed, firing-listed, replay-listed, replay-from-listed, exchange-listed, record-listed, preconditions-listed, postconditions-listed, start-listed, files-listed, piece-listed, unfolding-of-listed, listing-listed, unfolded-start-listed, unfolded-fire-listed, lift-listed, lift-end-listed, project-listed, unfolded-replay-listed, read-listed, write-listed}
 use Rattle.table.proofs.judge.Reads as judge
 use Rattle.table.proofs.condition_count.Reads as condition-count
 use Rattle.table.proofs.event_count.Reads as event-count
@@ -54,6 +56,12 @@ use Rattle.unfolding.proofs.event_number.Reads as event-number
 use Rattle.conditions.proofs.ordinary_number.Reads as ordinary-number
 use Rattle.conditions.proofs.copy_number.Reads as copy-number
 use Rattle.conditions.proofs.condition_origin.Reads as condition-origin
+use Rattle.reader.proofs.record_at.Reads as record-at
+use Rattle.asking.proofs.preconditions.Reads as preconditions
+use Rattle.asking.proofs.postconditions.Reads as postconditions
+use Rattle.asking.proofs.start.Reads as table-start
+use Rattle.listing.proofs.read_files.Reads as read-files
+use Rattle.listing.proofs.write.Reads as write-piece
 use Rattle.listed.proofs.unfolded_pre.Reads as unfolded-pre
 use Rattle.listed.proofs.unfolded_post.Reads as unfolded-post
 use Rattle.starting.proofs.unfolded_start.Reads as unfolded-start
@@ -74,6 +82,13 @@ written-refused : (numbers : List ℕ) (r answer : Judged) (new old out : List �
 written-refused numbers r answer new old out e t f = record { number = rw e t; kept = λ x g. f ∙ kept (sym e ∙ g) }
   where
     kept : {x : Refusal} → answer ≡ Refused x → written answer new old ≡ old
+    kept g = rw g
+
+-- the same where it is told by the answer itself
+late-refused : (numbers : List ℕ) (r answer : Judged) (new old out : List ℕ) → r ≡ answer → T (listed numbers answer) → out ≡ written r new old → Refusing numbers r old out
+late-refused numbers r answer new old out e t f = record { number = rw e t; kept = λ x g. f ∙ kept g }
+  where
+    kept : {x : Refusal} → r ≡ Refused x → written r new old ≡ old
     kept g = rw g
 
 -- answers that are no `Judged`: their number is 0 where nothing is refused
@@ -190,6 +205,34 @@ copy-number-refused κs a r x h = rw h (unfolding-of-listed ofNumbering (now (a 
 pub condition-origin-refused : (κs : _) (a : _) (r : _) (x : _) → condition-origin.Learnt κs a r x → T (mem (originNumber r) (0 ∷ ofNumbering))
 unfolding conditionOriginOf conditionJudged
 condition-origin-refused κs a r x h = rw h (told-listed (conditionJudged (now (a .0)) (a .1 .0 .0)) (conditionAt (netOf (now (a .0))) (a .1 .0 .0)) (unfolding-of-listed ofNumbering (now (a .0)) _ tt (listed-need ofNumbering _ 10 0 _ tt tt)))
+
+pub record-at-refused : (κs : _) (a : _) (r : _) (x : _) → record-at.Learnt κs a r x → T (listed ofTable r)
+record-at-refused κs a r x h = rw h (record-listed (now (a .0)) (a .1 .0))
+
+pub preconditions-refused : (κs : _) (a : _) (r : _) (x : _) → preconditions.Learnt κs a r x → Refusing ofList r (now (a .1 .1 .0)) (now (x .1 .1 .0))
+unfolding preconditionsInto
+preconditions-refused κs a r x h =
+    written-refused ofList r (preconditionsOf (now (a .0)) (a .1 .0 .0) (length (now (a .1 .1 .0)))) _ (now (a .1 .1 .0)) (now (x .1 .1 .0)) (h .0) (preconditions-listed (now (a .0)) (a .1 .0 .0) (length (now (a .1 .1 .0)))) (h .1)
+
+pub postconditions-refused : (κs : _) (a : _) (r : _) (x : _) → postconditions.Learnt κs a r x → Refusing ofList r (now (a .1 .1 .0)) (now (x .1 .1 .0))
+unfolding postconditionsInto
+postconditions-refused κs a r x h =
+    written-refused ofList r (postconditionsOf (now (a .0)) (a .1 .0 .0) (length (now (a .1 .1 .0)))) _ (now (a .1 .1 .0)) (now (x .1 .1 .0)) (h .0) (postconditions-listed (now (a .0)) (a .1 .0 .0) (length (now (a .1 .1 .0)))) (h .1)
+
+pub table-start-refused : (κs : _) (a : _) (r : _) (x : _) → table-start.Learnt κs a r x → Refusing ofTableStart r (now (a .1 .0)) (now (x .1 .0))
+unfolding startInto
+table-start-refused κs a r x h =
+    written-refused ofTableStart r (startOf (now (a .0)) (length (now (a .1 .0)))) _ (now (a .1 .0)) (now (x .1 .0)) (h .0) (start-listed (now (a .0)) (length (now (a .1 .0)))) (h .1)
+
+-- ---- the listing
+
+pub read-files-refused : (κs : _) (a : _) (r : _) (x : _) → read-files.Learnt κs a r x → Refusing ofFiles r (now (a .1 .1 .0)) (now (x .1 .1 .0))
+read-files-refused κs a r x h =
+    late-refused ofFiles r (filesOf (now (a .0)) (now (a .1 .0)) (length (now (a .1 .1 .0)))) _ (now (a .1 .1 .0)) (now (x .1 .1 .0)) (h .0) (files-listed (now (a .0)) (now (a .1 .0)) (length (now (a .1 .1 .0)))) (h .1)
+
+pub write-piece-refused : (κs : _) (a : _) (r : _) (x : _) → write-piece.Learnt κs a r x → Refusing ofPiece r (now (a .1 .1 .0)) (now (x .1 .1 .0))
+write-piece-refused κs a r x h =
+    late-refused ofPiece r (pieceOf (a .0) (now (a .1 .0)) (length (now (a .1 .1 .0)))) _ (now (a .1 .1 .0)) (now (x .1 .1 .0)) (h .0) (piece-listed (a .0) (now (a .1 .0)) (length (now (a .1 .1 .0)))) (h .1)
 
 pub unfolded-pre-refused : (κs : _) (a : _) (r : _) (x : _) → unfolded-pre.Learnt κs a r x → Refusing ofListing r (now (a .1 .1 .0)) (now (x .1 .1 .0))
 unfolding listedOf

@@ -1,10 +1,14 @@
 -- One answer only: two answers of a call that both meet its contract are equal, in the result and in the lent output, which stands
 -- here as the memory at exit.
-use mathlib.Core.Path.{_≡_, sym, _∙_}
+use mathlib.Core.Path.{_≡_, sym, ap, _∙_}
 use mathlib.Core.List.{List}
 use Prim.Native.Nat.{ℕ}
 use denote.Ref.{RefT, now, ptr}
 use Rattle.records.specs.Parts.{Part}
+use Rattle.refusal.specs.declared.Judged.{Judged}
+use Rattle.refusal.specs.Answer.{written}
+use Rattle.runs.specs.Runs.{runOf}
+use Rattle.listing.specs.Calls.{textOf}
 use Rattle.table.proofs.judge.Reads as judge
 use Rattle.table.proofs.condition_count.Reads as condition-count
 use Rattle.table.proofs.event_count.Reads as event-count
@@ -34,6 +38,9 @@ use Rattle.unfolding.proofs.event_number.Reads as event-number
 use Rattle.conditions.proofs.ordinary_number.Reads as ordinary-number
 use Rattle.conditions.proofs.copy_number.Reads as copy-number
 use Rattle.conditions.proofs.condition_origin.Reads as condition-origin
+use Rattle.asking.proofs.preconditions.Reads as preconditions
+use Rattle.asking.proofs.postconditions.Reads as postconditions
+use Rattle.asking.proofs.start.Reads as table-start
 use Rattle.listed.proofs.unfolded_pre.Reads as unfolded-pre
 use Rattle.listed.proofs.unfolded_post.Reads as unfolded-post
 use Rattle.starting.proofs.unfolded_start.Reads as unfolded-start
@@ -42,10 +49,18 @@ use Rattle.lift.proofs.lift.Reads as lift
 use Rattle.ends.proofs.lift_end.Reads as lift-end
 use Rattle.project.proofs.project.Reads as project
 use Rattle.ends.proofs.unfolded_replay.Reads as unfolded-replay
+use Rattle.listing.proofs.first_held.Reads as first-held
+use Rattle.listing.proofs.next_piece.Reads as next-piece
+use Rattle.listing.proofs.write.Reads as write-piece
+use Rattle.listing.proofs.read_files.Reads as read-files
 
 -- two parts of a table that lie and read the same
 same-part : {r q s : RefT (List ℕ)} {place : ℕ} {contents : List ℕ} → Part r s place contents → Part q s place contents → (ptr r .0 ≡ ptr q .0) × (ptr r .1 ≡ ptr q .1) × (now r ≡ now q)
 same-part h g = (h .within ∙ sym (g .within), h .begins ∙ sym (g .begins), h .reads ∙ sym (g .reads))
+
+-- where what is left is told by the answer
+same-late : (r q : Judged) (new old after past : List ℕ) → r ≡ q → after ≡ written r new old → past ≡ written q new old → (r ≡ q) × (after ≡ past)
+same-late r q new old after past e f g = (e, f ∙ ap (λ (z : Judged). written z new old) e ∙ sym g)
 
 -- ---- a table asked
 
@@ -146,6 +161,15 @@ copy-number-one κs a r q x y h g = h ∙ sym g
 pub condition-origin-one : (κs : _) (a : _) (r q : _) (x y : _) → condition-origin.Learnt κs a r x → condition-origin.Learnt κs a q y → r ≡ q
 condition-origin-one κs a r q x y h g = h ∙ sym g
 
+pub preconditions-one : (κs : _) (a : _) (r q : _) (x y : _) → preconditions.Learnt κs a r x → preconditions.Learnt κs a q y → (r ≡ q) × (now (x .1 .1 .0) ≡ now (y .1 .1 .0))
+preconditions-one κs a r q x y h g = (h .0 ∙ sym (g .0), h .1 ∙ sym (g .1))
+
+pub postconditions-one : (κs : _) (a : _) (r q : _) (x y : _) → postconditions.Learnt κs a r x → postconditions.Learnt κs a q y → (r ≡ q) × (now (x .1 .1 .0) ≡ now (y .1 .1 .0))
+postconditions-one κs a r q x y h g = (h .0 ∙ sym (g .0), h .1 ∙ sym (g .1))
+
+pub table-start-one : (κs : _) (a : _) (r q : _) (x y : _) → table-start.Learnt κs a r x → table-start.Learnt κs a q y → (r ≡ q) × (now (x .1 .0) ≡ now (y .1 .0))
+table-start-one κs a r q x y h g = (h .0 ∙ sym (g .0), h .1 ∙ sym (g .1))
+
 pub unfolded-pre-one : (κs : _) (a : _) (r q : _) (x y : _) → unfolded-pre.Learnt κs a r x → unfolded-pre.Learnt κs a q y → (r ≡ q) × (now (x .1 .1 .0) ≡ now (y .1 .1 .0))
 unfolded-pre-one κs a r q x y h g = (h .0 ∙ sym (g .0), h .1 ∙ sym (g .1))
 
@@ -171,3 +195,17 @@ project-one κs a r q x y h g = (h .0 ∙ sym (g .0), h .1 ∙ sym (g .1))
 
 pub unfolded-replay-one : (κs : _) (a : _) (r q : _) (x y : _) → unfolded-replay.Learnt κs a r x → unfolded-replay.Learnt κs a q y → (r ≡ q) × (now (x .1 .1 .0) ≡ now (y .1 .1 .0))
 unfolded-replay-one κs a r q x y h g = (h .0 ∙ sym (g .0), h .1 ∙ sym (g .1))
+
+-- ---- the listing
+
+pub first-held-one : (κs : _) (a : _) (r q : _) (x y : _) → first-held.Learnt κs a r x → first-held.Learnt κs a q y → r ≡ q
+first-held-one κs a r q x y h g = h ∙ sym g
+
+pub next-piece-one : (κs : _) (a : _) (r q : _) (x y : _) → next-piece.Learnt κs a r x → next-piece.Learnt κs a q y → r ≡ q
+next-piece-one κs a r q x y h g = h ∙ sym g
+
+pub write-piece-one : (κs : _) (a : _) (r q : _) (x y : _) → write-piece.Learnt κs a r x → write-piece.Learnt κs a q y → (r ≡ q) × (now (x .1 .1 .0) ≡ now (y .1 .1 .0))
+write-piece-one κs a r q x y h g = same-late r q (textOf (a .0) (now (a .1 .0))) (now (a .1 .1 .0)) (now (x .1 .1 .0)) (now (y .1 .1 .0)) (h .0 ∙ sym (g .0)) (h .1) (g .1)
+
+pub read-files-one : (κs : _) (a : _) (r q : _) (x y : _) → read-files.Learnt κs a r x → read-files.Learnt κs a q y → (r ≡ q) × (now (x .1 .1 .0) ≡ now (y .1 .1 .0))
+read-files-one κs a r q x y h g = same-late r q (runOf (now (a .1 .0))) (now (a .1 .1 .0)) (now (x .1 .1 .0)) (now (y .1 .1 .0)) (h .0 ∙ sym (g .0)) (h .1) (g .1)

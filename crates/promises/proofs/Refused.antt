@@ -12,7 +12,7 @@ use Rattle.model.specs.Runs.{Played, ends, refused, replay, opening, State}
 use Rattle.model.specs.Unfolding.{basic}
 use Rattle.model.specs.Exchange.{apartStep}
 use Rattle.model.specs.Lent.{marking}
-use Rattle.model.specs.Across.{Answer, run, refusal, other, numberOf, unless, stuck, mostSteps, tooLong, within, lowestIdle, idleOrOver, unfoldingRefused, earliest, repeated, again, lifting, lift, projecting, project, noStep, notApart, exchanging, exchange}
+use Rattle.model.specs.Across.{Answer, run, refusal, other, numberOf, unless, stuck, mostSteps, mostUnfolded, tooLong, within, lowestIdle, idleOrOver, unfoldingRefused, earliest, repeated, again, lifting, lift, projecting, project, noStep, notApart, exchanging, exchange}
 use Rattle.model.specs.Across as model
 use Rattle.refusal.specs.declared.Judged.{Judged}
 use Rattle.refusal.specs.declared.Judged.the-variants.{Fine, Refused}
@@ -21,22 +21,27 @@ use Rattle.words.specs.Words.{words, bits, countIn}
 use Rattle.records.specs.declared.Header.{Header}
 use Rattle.records.specs.declared.Header.the-variants.{Short, Whole}
 use Rattle.records.specs.Records.{part, headerOf, whenWhole, conditions, flags, conditionsOf, preCount, postCount, prePart, postPart, listsOf, eventOf, markingOf}
-use Rattle.table.specs.Walk.{kindIs, lastOf, eventsFrom, judgeOf}
+use Rattle.table.specs.Walk.{kindIs, lastOf, eventsFrom, judgeOf, offsetOf}
 use Rattle.table.specs.Decoded.{netOf}
 use Rattle.game.specs.Lent.{lent, firstAbove}
 use Rattle.game.specs.Calls.{passing, onMarking, stoppedAt, firingOf}
 use Rattle.replay.specs.Calls.{playedOf, replayOf, replayFromOf, begunAt}
 use Rattle.exchange.specs.Calls.{swapping, exchangeOf}
-use Rattle.runs.specs.Runs.{stepsIn, readAnswer, writeAnswer}
+use Rattle.runs.specs.Runs.{runKind, stepsIn, readAnswer, writeAnswer}
 use Rattle.layout.specs.Unfolds.{refusedOr, unfoldingOf}
 use Rattle.across.specs.Calls.{fitted, ended}
 use Rattle.lift.specs.Calls.{liftOf}
 use Rattle.ends.specs.Calls.{liftEndOf, unfoldedReplayOf}
 use Rattle.project.specs.Calls.{projectOf}
+use Rattle.table.specs.Asked.{askedOf}
+use Rattle.reader.specs.Read.{recordOf}
+use Rattle.asking.specs.Calls.{preconditionsOf, postconditionsOf, startOf}
+use Rattle.listing.specs.declared.Piece.{Piece}
+use Rattle.listing.specs.Calls.{mostNetBytes, mostRunBytes, textOf, pieceOf, filesOf}
 use Rattle.listed.specs.Calls.{listingOf}
 use Rattle.starting.specs.Calls.{unfoldedStartOf}
 use Rattle.firing.specs.Calls.{unfoldedFireOf}
-use Rattle.promises.specs.Refused.{ofListing, ofStart, ofUnfoldedFiring, ofTable, ofFiring, ofReplay, ofReplayFrom, ofExchange, ofUnfolding, ofLift, ofProject, ofReading, ofWriting, listed}
+use Rattle.promises.specs.Refused.{ofList, ofTableStart, ofFiles, ofPiece, ofListing, ofStart, ofUnfoldedFiring, ofTable, ofFiring, ofReplay, ofReplayFrom, ofExchange, ofUnfolding, ofLift, ofProject, ofReading, ofWriting, listed}
 
 -- ---- the links of a chain
 
@@ -320,3 +325,43 @@ read-listed kind bytes room =
 pub write-listed : (r : List ℕ) (room : ℕ) → T (listed ofWriting (writeAnswer r room))
 unfolding writeAnswer
 write-listed r room = listed-need ofWriting (leb (length r) mostSteps) 3 0 _ tt (listed-fitting ofWriting (4 + 2 * length r) room tt)
+
+-- ---- lists and start of a table, and its records
+
+asked-listed : (s : List ℕ) (e room : ℕ) (list : List ℕ) → T (listed ofList (andThen (askedOf s e) (λ at. fitting (length list) room)))
+unfolding askedOf
+asked-listed s e room list =
+    listed-then ofList (askedOf s e) _
+    (judged-listed ofList s _ tt (λ n. listed-need ofList (ltb e n) 10 0 _ tt tt)) (λ at. listed-fitting ofList (length list) room tt)
+
+pub preconditions-listed : (s : List ℕ) (e room : ℕ) → T (listed ofList (preconditionsOf s e room))
+unfolding preconditionsOf
+preconditions-listed s e room = asked-listed s e room (netOf s .preconditions e)
+
+pub postconditions-listed : (s : List ℕ) (e room : ℕ) → T (listed ofList (postconditionsOf s e room))
+unfolding postconditionsOf
+postconditions-listed s e room = asked-listed s e room (netOf s .postconditions e)
+
+pub start-listed : (s : List ℕ) (room : ℕ) → T (listed ofTableStart (startOf s room))
+unfolding startOf
+start-listed s room = judged-listed ofTableStart s _ tt (λ n. listed-fitting ofTableStart (netOf s .conditions) room tt)
+
+pub record-listed : (s : List ℕ) (at : ℕ) → T (listed ofTable (recordOf s at))
+unfolding recordOf
+record-listed s at =
+    listed-cond ofTable (eqb at 0) (conditionsOf s) _ (conditions-listed s)
+    (listed-cond ofTable (kindIs 2 (headerOf s at)) _ (markingOf s at) (listed-need ofTable (ltb at (offsetOf s 256)) 6 at (eventOf s at) tt (event-listed s at)) (marking-listed s at))
+
+-- ---- the listing
+
+pub files-listed : (s r : List ℕ) (room : ℕ) → T (listed ofFiles (filesOf s r room))
+unfolding filesOf
+files-listed s r room =
+    listed-need ofFiles (leb (length s) mostNetBytes) 19 0 _ tt
+    (judged-listed ofFiles s _ tt (λ n.
+    listed-need ofFiles (leb (length r) mostRunBytes) 19 0 _ tt
+    (listed-more ofReading ofFiles (readAnswer runKind r room) tt (read-listed runKind r room))))
+
+pub piece-listed : (p : Piece) (l : List ℕ) (room : ℕ) → T (listed ofPiece (pieceOf p l room))
+unfolding pieceOf
+piece-listed p l room = listed-need ofPiece (leb (length l) mostUnfolded) 18 mostUnfolded _ tt (listed-fitting ofPiece (length (textOf p l)) room tt)

@@ -19,6 +19,14 @@ ofTable = 1 ∷ 2 ∷ 3 ∷ 4 ∷ 5 ∷ 6 ∷ 7 ∷ 8 ∷ 9 ∷ []
 abbrev pub ofAsking : List ℕ
 ofAsking = ofTable ++ 10 ∷ []
 
+-- A list of an event into a lent output: 16 beside them (01, Refusal numbers).
+abbrev pub ofList : List ℕ
+ofList = ofAsking ++ 16 ∷ []
+
+-- The table's start into a lent output: 16 beside the table's (01, Refusal numbers).
+abbrev pub ofTableStart : List ℕ
+ofTableStart = ofTable ++ 16 ∷ []
+
 -- Concession and firing: a lent marking with 18, an event with 10, 11 and 12 (01, Refusal numbers).
 abbrev pub ofFiring : List ℕ
 ofFiring = ofTable ++ 18 ∷ 10 ∷ 11 ∷ 12 ∷ []
@@ -70,6 +78,14 @@ ofReading = 1 ∷ 2 ∷ 3 ∷ 9 ∷ 16 ∷ []
 -- A Run or Lifted record written (01, Runs across).
 abbrev pub ofWriting : List ℕ
 ofWriting = 3 ∷ 16 ∷ []
+
+-- The two files of a listing, judged and read (01, Listing).
+abbrev pub ofFiles : List ℕ
+ofFiles = ofTable ++ 16 ∷ 19 ∷ []
+
+-- A piece of a listing written: a marking that is too long, and 16 (01, Refusal numbers).
+abbrev pub ofPiece : List ℕ
+ofPiece = 18 ∷ 16 ∷ []
 
 -- ---- what is promised
 
