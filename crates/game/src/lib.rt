@@ -5,7 +5,6 @@ use refusal::TableEvent;
 ghost use mathlib.Core.Path.{_≡_};
 ghost use mathlib.Core.Bool.{not, _||_};
 ghost use mathlib.Core.List.{_++_};
-ghost use Prim.Native.Nat.{_<_};
 ghost use lib.ListN.{length};
 ghost use Rattle.lists.specs.Lists.{mem, failing, _⇒_};
 ghost use Rattle.words.specs.Words.{words};

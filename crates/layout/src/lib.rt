@@ -2,12 +2,10 @@
 // to see where the limits are tested.
 use refusal::Judged;
 ghost use mathlib.Core.Path.{_≡_};
-ghost use Prim.Native.Nat.{ℕ, _+_, _*_, _≤_, _<_};
+ghost use Prim.Native.Nat.{_*_, _≤_};
 ghost use lib.ListN.{length};
-ghost use Rattle.lists.specs.Lists.{sum};
 ghost use Rattle.words.specs.Words.{words};
 ghost use Rattle.table.specs.Decoded.{netOf};
-ghost use Rattle.table.specs.Walk.{offsetOf};
 ghost use Rattle.records.specs.Records.{conditions};
 ghost use Rattle.layout.specs.Colours.{flagged, radices, product, capped, widthAt, idleAt, eventsOf};
 ghost use Rattle.layout.specs.Laid.{Low, Sums, Counted, LaidOut};

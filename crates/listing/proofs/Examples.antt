@@ -1,7 +1,6 @@
 -- The document's example, computed by the definition.
 use mathlib.Core.Path.{_≡_, refl}
-use mathlib.Core.List.{List, [], _∷_}
-use Prim.Native.Nat.{ℕ}
+use mathlib.Core.List.{[], _∷_}
 use Rattle.model.specs.Net.{begin, fire}
 use Rattle.model.specs.Runs.{end}
 use Rattle.model.specs.Unfolding.{basic}

@@ -3,7 +3,7 @@ use Prim.Native.Nat.{ℕ, zero, suc, _+_, _-_, _≤_, _<_}
 use native.Mathlib.Numerals.{add-one}
 use native.Mathlib.Nat.{add-zero, zero-add}
 use native.Mathlib.Omega.{arith}
-use mathlib.Core.Path.{_≡_, refl, sym, _∙_, ap}
+use mathlib.Core.Path.{_≡_, refl}
 use mathlib.Core.Bool.{Bool, true, false, cond}
 use mathlib.Core.List.{List, [], _∷_, _++_, append-nil}
 use borrow.Author.Tests.{eq-eqb, ne-eqb, lt-ltb, le-ltb}
@@ -13,8 +13,8 @@ use Rattle.lists.specs.Lists.{keep, count}
 use Rattle.model.specs.Net.{Marking}
 use Rattle.model.specs.Lent.{marking}
 use Rattle.lists.proofs.Positions.{spread-append, count-split}
-use Rattle.listing.specs.Text.{decimal, comma, commas, listed, holding}
-use Rattle.listing.specs.Calls.{heldIn, firstOr, firstIn, firstPiece}
+use Rattle.listing.specs.Text.{decimal, comma, commas, holding}
+use Rattle.listing.specs.Calls.{heldIn, firstOr, firstIn}
 
 -- A condition of lent bytes holds where its byte is 1.
 pub byte-holds : (l : List ℕ) (b : ℕ) → getD l b 0 ≡ 1 → marking l b ≡ true

@@ -1,19 +1,17 @@
 -- The text of a list by its first number and the rest, how long texts are, and lines put together from their parts.
 use Prim.Native.Nat.{ℕ, zero, suc, _+_, _-_, _*_, _≤_, _<_}
 use native.Mathlib.Decide.{decLe}
-use native.Mathlib.Numerals.{add-one}
 use native.Mathlib.Nat.{zero-add}
 use native.Mathlib.Omega.{arith}
-use mathlib.Core.Path.{_≡_, refl, sym, _∙_, ap}
-use mathlib.Core.Bool.{Bool, true, false, cond}
+use mathlib.Core.Path.{_≡_, refl, sym, _∙_}
+use mathlib.Core.Bool.{Bool, true, false}
 use mathlib.Core.List.{List, [], _∷_, _++_, append-nil, append-assoc}
 use borrow.Author.Tests.{lt-ltb, le-ltb}
-use lib.Dec.{ltb}
 use lib.ListN.{length, length-append}
 use Rattle.model.specs.Net.{Marking}
 use Rattle.model.specs.Lent.{marking}
-use Rattle.listing.specs.Text.{decimal, comma, dash, space, newline, commas, listed, holding, stepLine}
-use Rattle.listing.specs.Calls.{heldIn, firstOr, firstIn, firstPiece}
+use Rattle.listing.specs.Text.{decimal, dash, space, newline, commas, listed, holding, stepLine}
+use Rattle.listing.specs.Calls.{heldIn, firstIn, firstPiece}
 use Rattle.listing.proofs.Decimal.{twenty}
 use Rattle.listing.proofs.Held.{after-first, first-then, none-left, holding-both, commas-both, one-holds, one-fails}
 

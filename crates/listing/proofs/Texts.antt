@@ -5,7 +5,7 @@ use native.Mathlib.Nat.{add-zero, zero-add, add-suc, suc-add}
 use native.Mathlib.Omega.{arith}
 use mathlib.Core.Path.{_≡_, refl, sym, _∙_, ap, subst}
 use mathlib.Core.List.{List, [], _∷_, _++_}
-use lib.ListN.{length, length-append, getD, drop, set, drop-of-length-le, length-set}
+use lib.ListN.{length, length-append, getD, drop, set, drop-of-length-le}
 use lib.Seq.{sets, sets-eq, length-sets, set-comm, set-out, drop-cons}
 use Rattle.listing.specs.Puts.{Put}
 

@@ -1,7 +1,6 @@
 -- What each call answers and what it leaves in its lent output, as functions of what it was given.
-use mathlib.Core.Bool.{cond}
 use mathlib.Core.List.{List, [], _∷_, _++_}
-use Prim.Native.Nat.{ℕ, suc, _+_, _-_, min}
+use Prim.Native.Nat.{ℕ, _+_, _-_, min}
 use lib.Dec.{leb}
 use lib.ListN.{length}
 use Rattle.model.specs.Lent.{marking}

@@ -9,7 +9,7 @@ ghost use Rattle.model.specs.Lent.{marking};
 ghost use Rattle.model.specs.Across.{mostUnfolded};
 ghost use Rattle.refusal.specs.Answer.{written};
 ghost use Rattle.runs.specs.Runs.{runOf};
-ghost use Rattle.listing.specs.Text.{space, newline, decimal, commas, listed, holding, startWord, atWord, endWords, refusedWord, startLine, stepLine, refusedLine};
+ghost use Rattle.listing.specs.Text.{space, newline, decimal, commas, listed, holding, endWords, startLine, stepLine, refusedLine};
 ghost use Rattle.listing.specs.Puts.{farthest, Put};
 ghost use Rattle.listing.specs.Calls.{heldIn, firstIn, nextOf, firstPiece, textOf, pieceOf, filesOf};
 

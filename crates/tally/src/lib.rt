@@ -1,7 +1,7 @@
 // The events of a table that have a condition in one of their two lists: how many, which, and at which place. Read on to see how
 // markers and users are counted and found.
 ghost use mathlib.Core.Path.{_≡_};
-ghost use Prim.Native.Nat.{_≤_, _<_};
+ghost use Prim.Native.Nat.{_≤_};
 ghost use lib.Dec.{eqb};
 ghost use lib.ListN.{length, getD};
 ghost use Rattle.lists.specs.Lists.{index};

@@ -9,7 +9,7 @@ use mathlib.Core.Bool.{Bool, true, false, _&&_, and-false, cond}
 use lib.Dec.{ltb}
 use lib.ListN.{length, getD}
 use borrow.Author.Tests.{lt-ltb, le-ltb, ltb-true}
-use Rattle.lists.specs.Lists.{index, count}
+use Rattle.lists.specs.Lists.{index}
 use Rattle.words.specs.Words.{wordAt, words}
 use Rattle.model.specs.Runs.{Marker}
 use Rattle.model.specs.Unfolding.{sameMarker, markers}

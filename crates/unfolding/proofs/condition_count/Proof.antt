@@ -4,7 +4,6 @@ use Prim.Native.Nat.{ℕ}
 use lib.ListN.{getD}
 use Rattle.refusal.specs.declared.Judged.the-variants.{Fine}
 use Rattle.model.specs.Unfolding.{basic}
-use Rattle.model.specs.Numbering.{number}
 use Rattle.table.specs.Decoded.{netOf}
 use Rattle.layout.proofs.Limits.{unfolds-passed, unfolds-on, unfolds-judged}
 use Rattle.unfolding.proofs.Calls.{conditions-count}
