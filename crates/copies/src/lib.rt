@@ -1,5 +1,4 @@
-// The marking of the unfolding, written from the table's marking and the events that have occurred: read on to see where the copies
-// of a condition stand.
+// The marking of the unfolding, written from the table's marking and the events that have occurred, which determine it.
 ghost use mathlib.Core.Path.{_≡_};
 ghost use mathlib.Core.List.{_++_};
 ghost use mathlib.Core.Bool.{true};

@@ -1,5 +1,5 @@
-// Whether an unfolded event can fire, decided from the table's marking and the events that have occurred: start with `decide`, at
-// the end.
+// Whether an unfolded event can fire, decided from the table's marking and the events that have occurred, so that no unfolded marking is
+// kept; `decide` stands at the end.
 use game::Cause;
 use game::Failing;
 use game::Step;

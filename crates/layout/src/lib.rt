@@ -1,5 +1,5 @@
-// What every call on the unfolding does first: judge the table, count markers, users and colours, and refuse with 13 and 14. Read on
-// to see where the limits are tested.
+// What every call on the unfolding does first, so that all of them refuse alike: judge the table, count markers, users and colours, and
+// refuse with 13 and 14.
 use refusal::Judged;
 ghost use mathlib.Core.Path.{_≡_};
 ghost use Prim.Native.Nat.{_*_, _≤_};

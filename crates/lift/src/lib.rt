@@ -1,4 +1,4 @@
-// The lift of a run of a table: each of its events becomes the unfolded event that the first markers pick. Start at the call, at the end.
+// The lift of a run of a table: each of its events becomes the unfolded event that the first markers pick; the call stands at the end.
 use firsts::Repeat;
 use refusal::Judged;
 ghost use mathlib.Core.Path.{_≡_};

@@ -1,6 +1,6 @@
 // Walks the unfolded conditions' and events' numbers of the nets on standard input to what stands behind them and back, one line for
-// each net. Each net stands there as one letter, a byte that tells how many numbers are passed over after each one walked (0 in all
-// but the net of most conditions), the length of its table in two bytes, and the table.
+// each net, which stands there as one letter, a byte that tells how many numbers are passed over after each one walked (0 in all but
+// the net of most conditions), the length of its table in two bytes, and the table.
 use conditions::ConditionOrigin;
 use libc::STDIN_FILENO;
 use libc::STDOUT_FILENO;

@@ -1,5 +1,5 @@
-// The lists of one unfolded event as ranges of numbers: each condition of the table adds a segment of at most two ranges to a list. Read
-// on to see how the numbers of a segment are had.
+// The lists of one unfolded event as ranges of numbers, at most two for each condition of the table, so that no list is kept number by
+// number.
 ghost use mathlib.Core.Path.{_≡_};
 ghost use Prim.Native.Nat.{_+_, _*_, _≤_, _<_};
 ghost use lib.ListN.{length};

@@ -1,5 +1,5 @@
-// The events of a table that have a condition in one of their two lists: how many, which, and at which place. Read on to see how
-// markers and users are counted and found.
+// The events of a table that have a condition in one of their two lists, how many, which, and at which place: markers and users are
+// counted and found by one walk.
 ghost use mathlib.Core.Path.{_≡_};
 ghost use Prim.Native.Nat.{_≤_};
 ghost use lib.Dec.{eqb};

@@ -1,4 +1,4 @@
-// The unfolding of a table asked for its counts and for its numbers both ways: start here, the public calls stand at the end.
+// The unfolding of a table asked for its counts and for the numbers of its events both ways; the public calls stand at the end.
 use refusal::Judged;
 use refusal::Marker;
 use refusal::TableEvent;

@@ -1,4 +1,4 @@
-// Numbers of two bytes in a slice of bytes, and the tests on a list of them; read on to see how a list is judged.
+// Numbers of two bytes in a slice of bytes, and the tests on a list of them; past the end all is 0, so that no caller has to ask first.
 ghost use mathlib.Core.Path.{_≡_};
 ghost use Prim.Native.Nat.{_+_, _<_};
 ghost use lib.ListN.{length, getD};

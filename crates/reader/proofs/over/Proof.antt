@@ -1,6 +1,5 @@
--- `reader::over` meets its contract: a walk of its MIR, by hand. A `Reader` is made of the slice passed and 0, in the result's local.
--- A `&[u8]` is Copy, so what it owns is had twice: once for the table at exit, and once inside the result, beside the facts of at.
--- Assumes nothing.
+-- `reader::over` meets its contract, walked by hand since it makes a struct that holds a slice: what the slice owns is had twice, once
+-- for the table at exit and once inside the result.
 use mathlib.Core.Path.{refl}
 use Prim.Native.Nat.{ℕ}
 use mathlib.Core.List.{List, [], _∷_}

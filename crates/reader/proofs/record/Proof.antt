@@ -1,6 +1,5 @@
--- `reader::record` meets its contract: a walk of its MIR, by hand. The struct is taken apart, and `record_at` is called on the slice and the number. All that the proof knows of `record_at` is that it meets its contract.
--- The struct is Copy: what it owns is had twice, one copy is kept whole for the exit, and of the other what the table owns goes to the callee, beside the lifetime's token, which comes back.
--- Assumes nothing.
+-- `reader::record` meets its contract, walked by hand since it takes a struct that holds a slice: what the struct owns is had twice, once
+-- whole for the exit and once for `record_at`, of which only the contract is known.
 use mathlib.Core.Path.{_≡_, refl}
 use Prim.Native.Nat.{_<_, _^_}
 use mathlib.Core.List.{[], _∷_}

@@ -1,6 +1,5 @@
--- `reader::second` meets its contract: a walk of its MIR, by hand. A `Reader` that one call returns is held in a local and passed to the next. All that the proof knows of `over`, of `moved` and of `record` is that each meets its contract.
--- The machine value that `over` returns is stored and passed on as it is. In a local of a body MIR erases the lifetime of the struct's type, so the value is shown to have the type at `erased`: what the struct owns does not say the lifetime's name.
--- Assumes nothing.
+-- `reader::second` meets its contract, walked by hand since it holds a struct with a slice in a local, where MIR erases the lifetime: the
+-- value is shown to have the type at `erased`, and of the three calls only their contracts are known.
 use mathlib.Core.Path.{_≡_, refl, ap, _∙_}
 use Prim.Native.Nat.{ℕ}
 use mathlib.Core.List.{List, [], _∷_}
