@@ -101,16 +101,6 @@ fn run(steps: &[u16]) -> Vec<u8> {
     record_bytes(RUN, &word_bytes(steps))
 }
 
-/// The seed of the generated cases, from the environment if it is given there.
-fn seed() -> u64 {
-    let given = std::env::var("SEED")
-        .ok()
-        .and_then(|seed| seed.parse().ok());
-    let seed = given.unwrap_or(2026);
-    println!("SEED={seed}");
-    seed
-}
-
 #[test]
 fn the_example_of_the_requirements() {
     let expected = "start 0\n0 0 0 1,2\n1 1 2 2,3\n2 2 3 1,2\n3 1 2 2,3\nend unfolded 3,4\n";
@@ -266,7 +256,7 @@ fn generated_files_and_every_refusal() {
     let given = std::env::var("CASES")
         .ok()
         .and_then(|cases| cases.parse().ok());
-    let mut random = Random::new(seed());
+    let mut random = Random::given();
     let mut seen = BTreeSet::new();
     for case in 0..given.unwrap_or(400) {
         let (bytes, run) = match case % 20 {

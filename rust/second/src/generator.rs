@@ -16,6 +16,17 @@ impl Random {
         Random { state: seed }
     }
 
+    /// The generator of a test's cases: from the seed that the environment gives as SEED, else from a fixed one, which is printed so
+    /// that a failing test can be run again.
+    pub fn given() -> Random {
+        let given = std::env::var("SEED")
+            .ok()
+            .and_then(|seed| seed.parse().ok());
+        let seed = given.unwrap_or(2026);
+        println!("SEED={seed}");
+        Random::new(seed)
+    }
+
     /// The next number of 64 bits.
     pub fn draw(&mut self) -> u64 {
         self.state = self.state.wrapping_add(0x9e37_79b9_7f4a_7c15);

@@ -217,19 +217,9 @@ fn parts_are_found_by_offset() {
     );
 }
 
-/// The seed of the generated cases, from the environment if it is given there.
-fn seed() -> u64 {
-    let given = std::env::var("SEED")
-        .ok()
-        .and_then(|seed| seed.parse().ok());
-    let seed = given.unwrap_or(2026);
-    println!("SEED={seed}");
-    seed
-}
-
 #[test]
 fn generated_tables_come_back() {
-    let mut random = Random::new(seed());
+    let mut random = Random::given();
     for _ in 0..3_000 {
         let net = any_net(&mut random);
         let bytes = table_bytes(&net);
@@ -254,7 +244,7 @@ fn generated_tables_come_back() {
 
 #[test]
 fn names_come_back() {
-    let mut random = Random::new(seed());
+    let mut random = Random::given();
     for _ in 0..2_000 {
         let net = second::generator::small_net(&mut random);
         let mut shown = Table::of_bytes(&table_bytes(&net)).unwrap();
@@ -280,7 +270,7 @@ fn names_come_back() {
 
 #[test]
 fn damaged_text_is_told_or_taken() {
-    let mut random = Random::new(seed());
+    let mut random = Random::given();
     let marks: Vec<char> = "{}[]p,:->.#\n 09az→é".chars().collect();
     let mut wrong = 0;
     for _ in 0..30_000 {
@@ -313,7 +303,7 @@ fn damaged_text_is_told_or_taken() {
 
 #[test]
 fn damaged_bytes_are_no_panic() {
-    let mut random = Random::new(seed());
+    let mut random = Random::given();
     for _ in 0..20_000 {
         let net = second::generator::small_net(&mut random);
         if net.events.is_empty() {

@@ -14,16 +14,6 @@ use second::unfolding::{
 
 use crate::common::*;
 
-/// Random numbers from the seed that is given, or from a fixed one.
-fn random() -> Random {
-    let given = std::env::var("SEED")
-        .ok()
-        .and_then(|seed| seed.parse().ok());
-    let seed = given.unwrap_or(2_026);
-    println!("seed {seed}");
-    Random::new(seed)
-}
-
 /// A small or middle net that unfolds, with its unfolding.
 fn unfolding_net(random: &mut Random) -> (Net, Unfolding) {
     loop {
@@ -52,7 +42,7 @@ fn firing_run(random: &mut Random, net: &Net, avoid_repeats: bool) -> Vec<u16> {
 
 #[test]
 fn the_judge_accepts_sound_tables_and_reads_them_back() {
-    let mut random = random();
+    let mut random = Random::given();
     for _ in 0..3_000 {
         let net = any_net(&mut random);
         assert_eq!(read_table(&table_bytes(&net)).unwrap().net, net);
@@ -61,7 +51,7 @@ fn the_judge_accepts_sound_tables_and_reads_them_back() {
 
 #[test]
 fn the_judge_refuses_damaged_tables_with_the_expected_number_and_place() {
-    let mut random = random();
+    let mut random = Random::given();
     let mut seen = [0; 10];
     for _ in 0..30_000 {
         let net = match random.below(200) {
@@ -82,7 +72,7 @@ fn the_judge_refuses_damaged_tables_with_the_expected_number_and_place() {
 
 #[test]
 fn a_lifted_run_fires_and_projects_to_the_run() {
-    let mut random = random();
+    let mut random = Random::given();
     for _ in 0..4_000 {
         let (net, unfolding) = unfolding_net(&mut random);
         let table = table_bytes(&net);
@@ -115,7 +105,7 @@ fn correspond(net: &Net, unfolding: &Unfolding, marking: &[bool], unfolded: &[bo
 
 #[test]
 fn a_lift_is_refused_exactly_at_the_first_repeat() {
-    let mut random = random();
+    let mut random = Random::given();
     let mut refusals = 0;
     for _ in 0..3_000 {
         let (net, _) = unfolding_net(&mut random);
@@ -138,7 +128,7 @@ fn a_lift_is_refused_exactly_at_the_first_repeat() {
 
 #[test]
 fn each_lifted_step_takes_the_earliest_markers() {
-    let mut random = random();
+    let mut random = Random::given();
     let (mut by_start, mut by_event) = (0, 0);
     for _ in 0..2_000 {
         let (net, unfolding) = unfolding_net(&mut random);
@@ -168,7 +158,7 @@ fn each_lifted_step_takes_the_earliest_markers() {
 
 #[test]
 fn unfolded_walks_project_to_runs_of_the_table() {
-    let mut random = random();
+    let mut random = Random::given();
     for _ in 0..3_000 {
         let (net, unfolding) = unfolding_net(&mut random);
         let way = Walk {
@@ -187,7 +177,7 @@ fn unfolded_walks_project_to_runs_of_the_table() {
 
 #[test]
 fn numbers_and_origins_are_inverse_and_ascend() {
-    let mut random = random();
+    let mut random = Random::given();
     for _ in 0..1_500 {
         let (_, unfolding) = unfolding_net(&mut random);
         assert!(unfolding.events.windows(2).all(|pair| pair[0] < pair[1]));
@@ -206,7 +196,7 @@ fn numbers_and_origins_are_inverse_and_ascend() {
 
 #[test]
 fn numbers_are_sums_and_mixed_radix_digits() {
-    let mut random = random();
+    let mut random = Random::given();
     for _ in 0..1_500 {
         let (net, unfolding) = unfolding_net(&mut random);
         let mut before = 0;
@@ -235,7 +225,7 @@ fn numbers_are_sums_and_mixed_radix_digits() {
 
 #[test]
 fn condition_numbers_count_by_condition_then_marker_then_user() {
-    let mut random = random();
+    let mut random = Random::given();
     for _ in 0..1_500 {
         let (net, unfolding) = unfolding_net(&mut random);
         let mut before = 0;
@@ -263,7 +253,7 @@ fn condition_numbers_count_by_condition_then_marker_then_user() {
 
 #[test]
 fn counts_are_the_lengths_of_the_lists() {
-    let mut random = random();
+    let mut random = Random::given();
     for _ in 0..1_500 {
         let (net, unfolding) = unfolding_net(&mut random);
         let counted = counts(&net);
@@ -278,7 +268,7 @@ fn counts_are_the_lengths_of_the_lists() {
 
 #[test]
 fn unfolded_lists_ascend_and_touch_something() {
-    let mut random = random();
+    let mut random = Random::given();
     for _ in 0..500 {
         let (_, unfolding) = unfolding_net(&mut random);
         for number in 0..unfolding.events.len().min(300) {
@@ -295,7 +285,7 @@ fn unfolded_lists_ascend_and_touch_something() {
 
 #[test]
 fn an_exchange_keeps_the_end_and_lifts_differ_by_it_alone() {
-    let mut random = random();
+    let mut random = Random::given();
     let mut made = 0;
     for _ in 0..6_000 {
         let (net, _) = unfolding_net(&mut random);
@@ -320,7 +310,7 @@ fn an_exchange_keeps_the_end_and_lifts_differ_by_it_alone() {
 
 #[test]
 fn nets_near_the_limits_lift_or_give_13_or_14() {
-    let mut random = random();
+    let mut random = Random::given();
     let (mut accepted, mut over) = (0, 0);
     for _ in 0..40 {
         let net = limit_net(&mut random);
@@ -349,7 +339,7 @@ fn nets_near_the_limits_lift_or_give_13_or_14() {
 
 #[test]
 fn a_refused_exchange_misses_a_premise() {
-    let mut random = random();
+    let mut random = Random::given();
     for _ in 0..3_000 {
         let (net, _) = unfolding_net(&mut random);
         let run = firing_run(&mut random, &net, false);
@@ -367,7 +357,7 @@ fn a_refused_exchange_misses_a_premise() {
 
 #[test]
 fn run_records_are_inverse_to_each_other() {
-    let mut random = random();
+    let mut random = Random::given();
     for _ in 0..2_000 {
         let run: Vec<u16> = (0..random.below(50)).map(|_| random.word()).collect();
         let record = written(7, 200, |out| write_run(&run, out)).unwrap();
@@ -402,7 +392,7 @@ fn every_call(random: &mut Random, table: &[u8], net: &Net) {
 
 #[test]
 fn every_call_answers_on_any_table() {
-    let mut random = random();
+    let mut random = Random::given();
     for _ in 0..1_000 {
         let net = any_net(&mut random);
         every_call(&mut random, &table_bytes(&net), &net);
@@ -411,7 +401,7 @@ fn every_call_answers_on_any_table() {
 
 #[test]
 fn every_call_answers_on_damaged_and_random_bytes() {
-    let mut random = random();
+    let mut random = Random::given();
     for _ in 0..1_000 {
         let net = small_net(&mut random);
         let damaged = damaged(&mut random, &net);
