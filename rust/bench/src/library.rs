@@ -97,9 +97,15 @@ pub fn replay(table: &[u8], run: &[u16], end: &mut [u8]) -> Answer {
     }
 }
 
-pub fn lift(table: &[u8], run: &[u16], out: &mut [u16]) -> Answer {
+/// A call that takes a run to another one.
+type Across = unsafe extern "C" fn(*const u8, usize, *const u16, usize, *mut u16, usize) -> Answer;
+
+/// A call that lists something of an unfolded event.
+type Lists = unsafe extern "C" fn(*const u8, usize, u16, *mut u16, usize, *mut u64) -> Answer;
+
+fn across(call: Across, table: &[u8], run: &[u16], out: &mut [u16]) -> Answer {
     unsafe {
-        dovetrellis_lift(
+        call(
             table.as_ptr(),
             table.len(),
             run.as_ptr(),
@@ -110,45 +116,34 @@ pub fn lift(table: &[u8], run: &[u16], out: &mut [u16]) -> Answer {
     }
 }
 
-pub fn project(table: &[u8], lifted: &[u16], out: &mut [u16]) -> Answer {
+fn lists(call: Lists, table: &[u8], unfolded: u16, out: &mut [u16]) -> Answer {
+    let mut count = 0;
     unsafe {
-        dovetrellis_project(
+        call(
             table.as_ptr(),
             table.len(),
-            lifted.as_ptr(),
-            lifted.len(),
+            unfolded,
             out.as_mut_ptr(),
             out.len(),
+            &mut count,
         )
     }
+}
+
+pub fn lift(table: &[u8], run: &[u16], out: &mut [u16]) -> Answer {
+    across(dovetrellis_lift, table, run, out)
+}
+
+pub fn project(table: &[u8], lifted: &[u16], out: &mut [u16]) -> Answer {
+    across(dovetrellis_project, table, lifted, out)
 }
 
 pub fn unfolded_pre(table: &[u8], unfolded: u16, out: &mut [u16]) -> Answer {
-    let mut count = 0;
-    unsafe {
-        dovetrellis_unfolded_pre(
-            table.as_ptr(),
-            table.len(),
-            unfolded,
-            out.as_mut_ptr(),
-            out.len(),
-            &mut count,
-        )
-    }
+    lists(dovetrellis_unfolded_pre, table, unfolded, out)
 }
 
 pub fn unfolded_post(table: &[u8], unfolded: u16, out: &mut [u16]) -> Answer {
-    let mut count = 0;
-    unsafe {
-        dovetrellis_unfolded_post(
-            table.as_ptr(),
-            table.len(),
-            unfolded,
-            out.as_mut_ptr(),
-            out.len(),
-            &mut count,
-        )
-    }
+    lists(dovetrellis_unfolded_post, table, unfolded, out)
 }
 
 pub fn unfolded_fire(table: &[u8], marking: &mut [u8], unfolded: u16) -> Answer {
