@@ -35,14 +35,9 @@ fn bytes_of(path: &str) -> Stopped<Vec<u8>> {
     fs::read(path).map_err(|error| Stop::Failed(format!("{path}: {error}")))
 }
 
-/// The table of a text file.
-pub fn read_text(path: &str) -> Stopped<Source> {
-    let given = bytes_of(path)?;
-    if let Some(at) = text::control_at(&given) {
-        let what = format!("byte {at} is a control character, so this is no text");
-        return Err(Stop::Text(format!("{path}: {what}")));
-    }
-    let table = text::read(&given).map_err(|trouble| Stop::Text(format!("{path}: {trouble}")))?;
+/// The table that the text of a file spells.
+fn spelled(path: &str, given: &[u8]) -> Stopped<Source> {
+    let table = text::read(given).map_err(|trouble| Stop::Text(format!("{path}: {trouble}")))?;
     Ok(Source {
         path: path.to_string(),
         bytes: table.bytes(),
@@ -51,11 +46,21 @@ pub fn read_text(path: &str) -> Stopped<Source> {
     })
 }
 
+/// The table of a text file.
+pub fn read_text(path: &str) -> Stopped<Source> {
+    let given = bytes_of(path)?;
+    if let Some(at) = text::control_at(&given) {
+        let what = format!("byte {at} is a control character, so this is no text");
+        return Err(Stop::Text(format!("{path}: {what}")));
+    }
+    spelled(path, &given)
+}
+
 /// The table of a file, be it text or records.
 pub fn read(path: &str) -> Stopped<Source> {
     let bytes = bytes_of(path)?;
     if text::is_text(&bytes) {
-        return read_text(path);
+        return spelled(path, &bytes);
     }
     Ok(Source {
         path: path.to_string(),
