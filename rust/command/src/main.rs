@@ -1,5 +1,6 @@
 //! `dovetrellis COMMAND WORDS...`: the script at the top of the repository builds and starts this.
 
+use std::ffi::OsString;
 use std::io::{self, Write};
 use std::process::ExitCode;
 
@@ -19,10 +20,19 @@ fn act(asked: Asked, out: &mut impl Write) -> Stopped<()> {
     }
 }
 
+/// The words after the program's name; one that is no text is wrong use.
+fn words() -> Stopped<Vec<String>> {
+    let no_text = |word: OsString| Stop::Use(format!("{word:?} is no text"));
+    let words = std::env::args_os().skip(1);
+    words
+        .map(|word| word.into_string().map_err(no_text))
+        .collect()
+}
+
 fn main() -> ExitCode {
-    let words: Vec<String> = std::env::args().skip(1).collect();
     let mut out = io::BufWriter::new(io::stdout().lock());
-    let done = asked(&words).and_then(|asked| act(asked, &mut out));
+    let asked = words().and_then(|words| asked(&words));
+    let done = asked.and_then(|asked| act(asked, &mut out));
     let done = done.and(out.flush().map_err(Stop::from));
     match done {
         Ok(()) => ExitCode::SUCCESS,
