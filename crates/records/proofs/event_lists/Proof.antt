@@ -1,10 +1,9 @@
 -- `records::event_lists` meets its contract.
 use Prim.Native.Nat.{_+_}
-use Rattle.records.specs.Records.{part}
+use Rattle.records.specs.Records.{part, listsOf}
 use mathlib.Core.Path.{_∙_}
 use borrow.Author.Tests.{le-leb, lt-leb, not-true, not-false}
 use Rattle.refusal.specs.Answer.{need}
-use Rattle.records.specs.Records.{listsOf}
 use Rattle.records.proofs.Parts.{few-in}
 use borrow.Author.Needs.{needs}
 use Rattle.records.proofs.event_lists.Statement.{statement}
