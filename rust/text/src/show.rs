@@ -71,9 +71,12 @@ impl Table {
     /// The words of a list of conditions: names where there are any, and ranges of the others.
     fn words(&self, numbers: &[u16]) -> Vec<String> {
         let unnamed = |a: u16, b: u16| !self.is_named(a) && !self.is_named(b);
-        let word = |stretch: (u16, u16)| match self.is_named(stretch.0) {
-            true => vec![self.condition_name(stretch.0)],
-            false => stretch_words(stretch),
+        let word = |stretch: (u16, u16)| {
+            if self.is_named(stretch.0) {
+                vec![self.condition_name(stretch.0)]
+            } else {
+                stretch_words(stretch)
+            }
         };
         stretches(numbers, unnamed)
             .into_iter()

@@ -95,11 +95,13 @@ fn correspond(net: &Net, unfolding: &Unfolding, marking: &[bool], unfolded: &[bo
         };
         (0..unfolded.len()).filter(same).any(|i| unfolded[i])
     };
-    (0..marking.len()).all(|b| match net.persistent[b] {
-        false => copy_holds(b, None) == marking[b],
-        true => users(net, b as u16)
-            .iter()
-            .all(|u| copy_holds(b, Some(*u)) == marking[b]),
+    (0..marking.len()).all(|b| {
+        if net.persistent[b] {
+            let holds = |user: &u16| copy_holds(b, Some(*user)) == marking[b];
+            users(net, b as u16).iter().all(holds)
+        } else {
+            copy_holds(b, None) == marking[b]
+        }
     })
 }
 
@@ -138,12 +140,13 @@ fn each_lifted_step_takes_the_earliest_markers() {
             let unfolded = &unfolding.events[usize::from(*number)];
             let event = &net.events[usize::from(run[step])];
             let read = persistent_preconditions(&net, event);
-            let earliest = |b: &u16| match net.start.contains(b) {
-                true => Some(Marker::Start),
-                false => run[..step]
-                    .iter()
-                    .find(|e| net.events[usize::from(**e)].postconditions.contains(b))
-                    .map(|e| Marker::ByEvent(*e)),
+            let earliest = |b: &u16| {
+                if net.start.contains(b) {
+                    return Some(Marker::Start);
+                }
+                let marks = |e: &&u16| net.events[usize::from(**e)].postconditions.contains(b);
+                let first = run[..step].iter().find(marks);
+                first.map(|e| Marker::ByEvent(*e))
             };
             let expected: Option<Vec<Marker>> = read.iter().map(earliest).collect();
             assert_eq!(Some(unfolded.markers.clone()), expected);
