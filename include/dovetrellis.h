@@ -34,7 +34,7 @@
  *   12  contact                                                  0; in a run, the step
  *   13  an event touches nothing once unfolded                   the lowest such event
  *   14  over 65,535 unfolded conditions or events                0
- *   15  an event with a persistent postcondition comes twice     the step of its second time
+ *   15  an event with a persistent postcondition comes twice     the first step at which such an event comes again
  *   16  a lent output is too short                               the number of elements needed
  *   17  two steps may not change places                          k
  *   18  a lent marking of another length                         the number of conditions

@@ -100,7 +100,7 @@ pub record Prepared (s users bases start state : List ℕ) (room : ℕ) : Type 0
   pub started : start ≡ bytes 256 (begin (netOf s))
   pub lent : state ≡ bytes 256 (marking state)
 
--- Where nothing that an event marks was right, all of it is now, whatever the table's marking is.
+-- Where all but what events mark was right, everything is now, whatever the table's marking is.
 abbrev pub EventsRight : Net → (ℕ → Bool) → List ℕ → List ℕ → Type 0
 EventsRight n seen out after =
     (m : Marking) (before : List ℕ) → Right n m seen (markedBelow 0) before out → Right n m seen (markedBelow (n .events)) before after

@@ -1,4 +1,4 @@
-// Every public call for C, as include/dovetrellis.h declares it: each hands on what it is given and tells the answer.
+// The calls that include/dovetrellis.h declares for C: each hands on what it is given and tells the answer.
 use outward::Answer;
 use refusal::TableCondition;
 use refusal::TableEvent;

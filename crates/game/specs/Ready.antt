@@ -1,4 +1,4 @@
--- An event asked for at a lent marking, before it is tested.
+-- What is judged before an event is tested.
 use mathlib.Core.List.{List}
 use Prim.Native.Nat.{ℕ}
 use lib.Dec.{ltb}

@@ -30,7 +30,7 @@ rest-whole zero l from h few = sym (no-more (marking l) from (length l) (omega a
 rest-whole (suc k) l from h few =
     ap (λ (t : List ℕ). morePiece l from ++ t) (rest-whole k l (nextOf l from) (omega arith) (omega arith)) ∙ sym (parted l from h)
 
--- The first piece, and then the further ones from after the first number on, are the list of a marking (01, Listing).
+-- The first piece, and then the further ones from after the first number on, are the list of a marking (01, Nets to test with: Listing).
 pub pieces-whole : (l : List ℕ) → firstIn l < length l → firstPiece (heldIn l) ++ pieces (length l) l (firstIn l + 1) ≡ listed (heldIn l)
 pieces-whole l h =
     ap (λ (t : List ℕ). firstPiece (heldIn l) ++ t) (rest-whole (length l) l (firstIn l + 1) (omega arith) (omega arith)) ∙ list-parts l (firstIn l) refl

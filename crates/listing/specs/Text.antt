@@ -8,16 +8,16 @@ use Rattle.model.specs.Net.{Marking}
 
 -- ---- numbers and lists
 
--- The digits of a number, k of them at most, the highest first (01, Listing).
+-- The digits of a number, k of them at most, the highest first (01, Nets to test with: Listing).
 abbrev pub digits : ℕ → ℕ → List ℕ
 digits zero n = []
 digits (suc k) n = cond (ltb n 10) ((48 + n) ∷ []) (digits k (n / 10) ++ ((48 + n % 10) ∷ []))
 
--- A number in decimal, for it has fewer digits than it counts (01, Listing).
+-- A number in decimal; n + 1 digits are always enough (01, Nets to test with: Listing).
 unfoldable pub decimal : ℕ → List ℕ
 decimal n = digits (suc n) n
 
--- The bytes of the comma, the dash, the space and the newline (01, Listing).
+-- The bytes of the comma, the dash, the space and the newline (01, Nets to test with: Listing).
 abbrev pub comma : ℕ
 comma = 44
 
@@ -30,22 +30,22 @@ space = 32
 abbrev pub newline : ℕ
 newline = 10
 
--- Numbers with a comma before each (01, Listing).
+-- Numbers with a comma before each (01, Nets to test with: Listing).
 unfoldable pub commas : List ℕ → List ℕ
 commas l = spread (λ x. comma ∷ decimal x) l
 
--- Numbers with commas between them, and a dash where there is none (01, Listing).
+-- Numbers with commas between them, and a dash where there is none (01, Nets to test with: Listing).
 unfoldable pub listed : List ℕ → List ℕ
 listed [] = dash ∷ []
 listed (x ∷ xs) = decimal x ++ commas xs
 
--- The conditions that hold among c of them from one on (01, Listing).
+-- The conditions that hold among c of them from one on (01, Nets to test with: Listing).
 unfoldable pub holding : Marking → ℕ → ℕ → List ℕ
 holding m from c = keep m (count from c)
 
 -- ---- lines
 
--- The words that lines begin with or have between their numbers (01, Listing).
+-- The words that lines begin with or have between their numbers (01, Nets to test with: Listing).
 abbrev pub startWord : List ℕ
 startWord = 115 ∷ 116 ∷ 97 ∷ 114 ∷ 116 ∷ 32 ∷ []
 
@@ -58,19 +58,19 @@ refusedWord = 114 ∷ 101 ∷ 102 ∷ 117 ∷ 115 ∷ 101 ∷ 100 ∷ 32 ∷ []
 abbrev pub atWord : List ℕ
 atWord = 32 ∷ 97 ∷ 116 ∷ 32 ∷ []
 
--- The line of the start, by the conditions that hold there (01, Listing).
+-- The line of the start, by the conditions that hold there (01, Nets to test with: Listing).
 unfoldable pub startLine : List ℕ → List ℕ
 startLine held = startWord ++ listed held ++ (newline ∷ [])
 
--- The line of a step: its number, its event, its unfolded event, and the conditions that hold after it (01, Listing).
+-- The line of a step: its number, its event, its unfolded event, and the conditions that hold after it (01, Nets to test with: Listing).
 unfoldable pub stepLine : ℕ → ℕ → ℕ → List ℕ → List ℕ
 stepLine step event unfolded held =
     decimal step ++ (space ∷ []) ++ decimal event ++ (space ∷ []) ++ decimal unfolded ++ (space ∷ []) ++ listed held ++ (newline ∷ [])
 
--- The line of the unfolded end (01, Listing).
+-- The line of the unfolded end (01, Nets to test with: Listing).
 unfoldable pub endLine : List ℕ → List ℕ
 endLine held = endWords ++ listed held ++ (newline ∷ [])
 
--- The line of a refusal, which then stands alone (01, Listing).
+-- The line of a refusal, which then stands alone (01, Nets to test with: Listing).
 unfoldable pub refusedLine : ℕ → ℕ → List ℕ
 refusedLine number place = refusedWord ++ decimal number ++ atWord ++ decimal place ++ (newline ∷ [])

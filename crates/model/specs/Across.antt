@@ -96,7 +96,7 @@ orStart (some m) = m
 unfoldable pub marks : Net → ℕ → Bool
 marks n e = any (n .persistent) (n .postconditions e)
 
--- The rule picks the earliest marker, and calls the second occurrence of an event that marks a repeat (01, Runs across;
+-- The rule picks the earliest marker, and calls a later occurrence of an event that marks a repeat (01, Runs across;
 -- paper, theorem 6.1).
 unfoldable pub earliest : Net → Lifting
 unfolding marks

@@ -29,7 +29,8 @@ pub record Stops (n : Net) (k : ℕ) (s : State) (r : List ℕ) (v : Stop) (i : 
 -- ---- demand 2
 
 -- A marking of the table and one of its unfolding correspond: an ordinary condition holds exactly if its unfolded condition
--- does, a persistent one holds exactly if each of its users has a copy that does (paper, theorem 6.1).
+-- does; where a persistent one holds each of its users has a copy that does, and where a copy holds so does its condition (paper,
+-- theorem 6.1).
 pub record Correspond (n : Net) (m u : Marking) : Type 0 where
   pub same : (k b : ℕ) → getElem? (unfoldedConditions n) k ≡ some (ordinary b) → u k ≡ m b
   pub copied : (b v : ℕ) → b < n .conditions → n .persistent b ≡ true → v ∈ users n b → T (m b)
@@ -51,7 +52,7 @@ pub record Projects (n : Net) (w r : List ℕ) : Type 0 where
   pub run : T (runs n (begin n) r)
   pub ends : Correspond n (end n (begin n) r) (end (basic n) (begin (basic n)) w)
 
--- At step i an event that marks comes for the second time (01, Runs across).
+-- At step i an event that marks comes again (01, Runs across).
 pub record Again (n : Net) (r : List ℕ) (i : ℕ) : Type 0 where
   pub before : List ℕ
   pub event : ℕ
@@ -76,8 +77,8 @@ holdsAfter n r (copy b (byEvent e) v) = mem e r && mem b (n .postconditions e)
 
 -- ---- demand 3
 
--- With steps k and k + 1 exchanged it is still a run and ends the same; one lifts exactly if the other does; and then the
--- lifted runs differ by the same exchange alone and end alike (01, Runs across: demand 3).
+-- With steps k and k + 1 exchanged it is still a run and ends the same; one has a repeat exactly if the other has; and without one
+-- the lifted runs differ by the same exchange alone and end alike (README, What is promised: 3).
 pub record Exchanged (n : Net) (l : Lifting) (r : List ℕ) (k : ℕ) : Type 0 where
   pub run : T (runs n (begin n) (exchanged k r))
   pub same-end : end n (begin n) (exchanged k r) ≡ end n (begin n) r

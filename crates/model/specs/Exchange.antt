@@ -13,7 +13,7 @@ unfoldable pub touch : Net → ℕ → List ℕ
 touch n e = n .preconditions e ++ n .postconditions e
 
 -- Events e and f, fired in this order from m, may change places: they differ, they touch no ordinary condition both, f reads
--- no persistent condition that did not hold before e, and no such condition is marked by both (01, Runs across: demand 3).
+-- no persistent condition that did not hold before e, and no such condition is marked by both (README, What is promised: 3).
 unfoldable pub apart : Net → Marking → ℕ → ℕ → Bool
 unfolding touch
 apart n m e f =

@@ -43,7 +43,7 @@ conditionNumber n p = index (sameCondition p) (unfoldedConditions n)
 
 -- ---- the same without the lists, in whole numbers
 
--- The number of colours is a product, the number of ways to take one of each list (01, Unfolding).
+-- How many ways there are to take one of each list: their lengths multiplied (01, Unfolding).
 abbrev pub ways : List (List Marker) → ℕ
 ways [] = 1
 ways (ms ∷ mss) = length ms * ways mss

@@ -1,4 +1,4 @@
--- The unfolding of a net with persistent conditions to a net without any, which is played by the same rule.
+-- A net with persistent conditions unfolded to one that has only ordinary ones.
 use mathlib.Core.Bool.{Bool, true, false, _&&_, _||_, cond}
 use mathlib.Core.List.{List, [], _∷_, map}
 use Prim.Native.Nat.{ℕ}

@@ -116,7 +116,8 @@ pub record Owned (s ms us bases : List ℕ) (e at weight rest : ℕ) : Type 0 wh
 
 -- ---- a whole list
 
--- So many ranges have the numbers of one list of unfolded event j, and no more than there are unfolded conditions (01, Unfolding).
+-- So many ranges, at most two for each of 256 conditions, have the numbers of one list of unfolded event j, each below the most that
+-- there can be (01, Unfolding).
 pub record Ranges (n : Net) (post : Bool) (j : ℕ) (starts sizes : List ℕ) (k : ℕ) : Type 0 where
   pub numbers : ranged starts sizes k ≡ listOf (basic n) post j
   pub low : (b : ℕ) → T (mem b (ranged starts sizes k)) → b < 65535

@@ -24,8 +24,7 @@ recordsFrom n e (suc k) = framed 2 (eventPayload n e) ++ recordsFrom n (suc e) k
 unfoldable pub encode : Net → List ℕ
 encode n = framed 1 (bytes (n .conditions) (n .persistent)) ++ recordsFrom n 0 (n .events)
 
--- Two nets agree if they have the same conditions, events, lists and start, so that no call on a table tells them apart (01,
--- Table records).
+-- Two nets agree if they have the same conditions, events, lists and start (01, Table records).
 pub record Agree (m n : Net) : Type 0 where
   pub conditions-agree : m .conditions ≡ n .conditions
   pub persistent-agree : (b : ℕ) → b < n .conditions → m .persistent b ≡ n .persistent b

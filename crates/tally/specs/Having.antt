@@ -34,7 +34,7 @@ unfoldable pub raised : List ℕ → List ℕ → List ℕ
 raised counts [] = counts
 raised counts (b ∷ l) = raised (set counts b (getD counts b 0 + 1)) l
 
--- There is a number for each member of a list, and room above each.
+-- There is a number for each member of a list of at most 256, and room above each.
 pub record Room (counts list : List ℕ) : Type 0 where
   pub inside : (b : ℕ) → T (mem b (words list)) → b < length counts
   pub low : (b : ℕ) → getD counts b 0 ≤ 1000

@@ -25,8 +25,7 @@ pub record Within (s ms : List ℕ) (events : ℕ) : Type 0 where
   pub few : eventCount (netOf s) ≤ mostUnfolded
   pub all : events ≡ netOf s .events
 
--- The event that a number belongs to, with its record's offset, what is left of the number, and its number of colours; or that the
--- number is past the last (01, Unfolding).
+-- The event that a number belongs to, with its record's offset, what is left of the number, and its number of colours (01, Unfolding).
 pub record Owner (s : List ℕ) (j e at rest weight : ℕ) : Type 0 where
   pub event : e < netOf s .events
   pub offset : at ≡ offsetOf s e
@@ -34,6 +33,7 @@ pub record Owner (s : List ℕ) (j e at rest weight : ℕ) : Type 0 where
   pub whole : weight ≡ size (netOf s) e
   pub below : rest < weight
 
+-- A number belongs to an event, or is past the last (01, Unfolding).
 abbrev pub Belongs : List ℕ → ℕ → Found → Type 0
 Belongs s j (At e at rest weight) = Owner s j e at rest weight
 Belongs s j Past = eventCount (netOf s) ≤ j

@@ -72,21 +72,21 @@ pub fn is_persistent(table: &[u8], condition: u16) -> Answer<bool> {
     known(net.persistent.get(usize::from(condition)).copied())
 }
 
-/// The preconditions of an event, as the part of the table that they occupy.
+/// The preconditions of an event: a slice of the table, not copied.
 pub fn preconditions(table: &[u8], event: u16) -> Answer<&[u8]> {
     let Table { parts, .. } = read_table(table)?;
     let parts = known(parts.get(usize::from(event)))?;
     Ok(&table[parts.preconditions.clone()])
 }
 
-/// The postconditions of an event, as the part of the table that they occupy.
+/// The postconditions of an event: a slice of the table, not copied.
 pub fn postconditions(table: &[u8], event: u16) -> Answer<&[u8]> {
     let Table { parts, .. } = read_table(table)?;
     let parts = known(parts.get(usize::from(event)))?;
     Ok(&table[parts.postconditions.clone()])
 }
 
-/// The conditions of the table's Marking, as the part of the table that they occupy.
+/// The conditions that hold at the start: a slice of the table, not copied.
 pub fn start_list(table: &[u8]) -> Answer<&[u8]> {
     let part = read_table(table)?.start_part;
     Ok(&table[part])
@@ -169,7 +169,7 @@ pub fn colour_markers(table: &[u8], event: u16, colour: usize) -> Answer<Vec<Mar
     known(colours_of(&net, event)?.get(colour).cloned())
 }
 
-/// The event and markers behind an unfolded event number.
+/// What an unfolded event's number stands for: an event and its markers.
 pub fn event_behind(table: &[u8], number: u16) -> Answer<UnfoldedEvent> {
     let (_, unfolding) = unfolding_of(table)?;
     known(unfolding.events.get(usize::from(number)).cloned())
