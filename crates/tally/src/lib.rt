@@ -45,7 +45,7 @@ pub fn raise(counts: &mut [u32], list: &[u8])
 {
     let mut i: usize = 0;
     while 1 < list.len() - i {
-        let b = words::word(list, i) as usize;
+        let b = words::word_within(list, i) as usize;
         counts[b] = counts[b] + 1;
         i = i + 2;
     }

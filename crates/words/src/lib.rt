@@ -24,7 +24,7 @@ pub fn word(s: &[u8], i: usize) -> u16
 }
 
 // The number of two bytes at i, both of which are there: what the loops read, with no test of the end.
-fn word_within(s: &[u8], i: usize) -> u16
+pub fn word_within(s: &[u8], i: usize) -> u16
     requires { ⌜ i + 1 < length (now s) ⌝ }
     ensures { λ r. ⌜ r ≡ wordAt (now (s .entry)) i ⌝ }
 {

@@ -20,20 +20,20 @@ abbrev μ-loop : tie.MeasureT-loop
 
 slice-read-counts : tie.Need-slice-read-counts Inv-loop μ-loop
 slice-read-counts c =
-    inside-here (c .before .before .before .loop .counts) (c .before .before .before .before .before .before .args .list .now) (c .before .before .before .loop .i) (c .before .word .result) (omega arith) (c .before .word .ensures) (length (c .before .before .before .loop .counts)) (c .before .before .before .loop .inv .3)
+    inside-here (c .before .before .before .loop .counts) (c .before .before .before .before .before .before .args .list .now) (c .before .before .before .loop .i) (c .before .word-within .result) (omega arith) (c .before .word-within .ensures) (length (c .before .before .before .loop .counts)) (c .before .before .before .loop .inv .3)
 
 add-counts : tie.Need-add-counts Inv-loop μ-loop
 add-counts c =
-    omega (arith, c .before .before .before .loop .inv .2 (c .before .word .result))
+    omega (arith, c .before .before .before .loop .inv .2 (c .before .word-within .result))
 
 slice-write-counts : tie.Need-slice-write-counts Inv-loop μ-loop
 slice-write-counts c =
-    inside-here (c .before .before .before .loop .counts) (c .before .before .before .before .before .before .args .list .now) (c .before .before .before .loop .i) (c .before .word .result) (omega arith) (c .before .word .ensures) (length (c .before .before .before .loop .counts)) (c .before .before .before .loop .inv .3)
+    inside-here (c .before .before .before .loop .counts) (c .before .before .before .before .before .before .args .list .now) (c .before .before .before .loop .i) (c .before .word-within .result) (omega arith) (c .before .word-within .ensures) (length (c .before .before .before .loop .counts)) (c .before .before .before .loop .inv .3)
 
 loop-again : tie.Need-loop-again Inv-loop μ-loop
 loop-again c =
-    let low = set-low (c .before .before .before .loop .counts) (c .before .word .result) (1000 + c .before .before .before .loop .i) (c .before .before .before .loop .inv .2) in
-    simp length-set (omega arith, c .before .before .before .loop .inv .1, λ b. omega (arith, low b), inside-later (c .before .before .before .loop .counts) (c .before .before .before .before .before .before .args .list .now) (c .before .before .before .loop .i) (c .before .word .result) (omega arith) (c .before .word .ensures) (length (c .before .before .before .loop .counts)) (c .before .before .before .loop .inv .3), sym (raised-next (c .before .before .before .loop .counts) (c .before .before .before .before .before .before .args .list .now) (c .before .before .before .loop .i) (c .before .word .result) (omega arith) (c .before .word .ensures)) ∙ c .before .before .before .loop .inv .4)
+    let low = set-low (c .before .before .before .loop .counts) (c .before .word-within .result) (1000 + c .before .before .before .loop .i) (c .before .before .before .loop .inv .2) in
+    simp length-set (omega arith, c .before .before .before .loop .inv .1, λ b. omega (arith, low b), inside-later (c .before .before .before .loop .counts) (c .before .before .before .before .before .before .args .list .now) (c .before .before .before .loop .i) (c .before .word-within .result) (omega arith) (c .before .word-within .ensures) (length (c .before .before .before .loop .counts)) (c .before .before .before .loop .inv .3), sym (raised-next (c .before .before .before .loop .counts) (c .before .before .before .before .before .before .args .list .now) (c .before .before .before .loop .i) (c .before .word-within .result) (omega arith) (c .before .word-within .ensures)) ∙ c .before .before .before .loop .inv .4)
 
 returns : tie.Need-returns Inv-loop μ-loop
 returns c =
