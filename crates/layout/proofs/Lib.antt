@@ -1,3 +1,4 @@
+pub mod Flags
 pub mod Products
 pub mod Steps
 pub mod Counts

@@ -14,8 +14,11 @@ ghost use Rattle.layout.specs.Laid.{Low, Sums, Counted, LaidOut};
 pub fn is_persistent(table: &[u8], b: usize) -> bool
     ensures { λ r. ⌜ r ≡ flagged (now (table .entry)) b ⌝ }
 {
-    let n = words::word(table, 0) as usize;
-    words::byte(records::part_of(table, 4, n), b) == 1
+    if b < words::word(table, 0) as usize {
+        words::byte(table, 4 + b) == 1
+    } else {
+        false
+    }
 }
 
 // The product of two counts, cut one over `refusal::MOST_UNFOLDED`, where it is still over the limit.
@@ -51,7 +54,7 @@ fn idle<'a>(table: &'a [u8], users: &[u32], pre: &'a [u8], post: &'a [u8]) -> bo
     }
     let mut i: usize = 0;
     while 1 < post.len() - i {
-        let b = words::word(post, i) as usize;
+        let b = words::word_within(post, i) as usize;
         if is_persistent(table, b) {
             if tally::number(users, b) != 0 {
                 return false;

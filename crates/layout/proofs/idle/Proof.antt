@@ -28,15 +28,15 @@ loop-holds c =
 
 returns-2 : tie.Need-returns-2 Inv-loop μ-loop
 returns-2 c =
-    sym (c .before .before .before .before .before .before .loop .inv .1 ∙ used-here (c .before .before .before .before .before .before .before .before .before .before .before .before .args .table .now) (c .before .before .before .before .before .before .before .before .before .before .before .before .args .users .now) (c .before .before .before .before .before .before .before .before .before .before .before .before .args .post .now) (c .before .before .before .before .before .before .loop .i) (c .before .before .before .before .word .result) (omega arith) (c .before .before .before .before .word .ensures) (sym (c .before .before .before .is-persistent .ensures) ∙ c .before .before .if2 .taken) (λ e. c .if3 .taken (c .before .number .ensures ∙ e)))
+    sym (c .before .before .before .before .before .before .loop .inv .1 ∙ used-here (c .before .before .before .before .before .before .before .before .before .before .before .before .args .table .now) (c .before .before .before .before .before .before .before .before .before .before .before .before .args .users .now) (c .before .before .before .before .before .before .before .before .before .before .before .before .args .post .now) (c .before .before .before .before .before .before .loop .i) (c .before .before .before .before .word-within .result) (omega arith) (c .before .before .before .before .word-within .ensures) (sym (c .before .before .before .is-persistent .ensures) ∙ c .before .before .if2 .taken) (λ e. c .if3 .taken (c .before .number .ensures ∙ e)))
 
 returns-3 : tie.Need-returns-3 Inv-loop μ-loop
 returns-3 c =
-    sym (c .before .before .before .before .loop .inv .1 ∙ ordinary-here (c .before .before .before .before .before .before .before .before .before .before .args .table .now) (c .before .before .before .before .before .before .before .before .before .before .args .users .now) (c .before .before .before .before .before .before .before .before .before .before .args .post .now) (c .before .before .before .before .loop .i) (c .before .before .word .result) (omega arith) (c .before .before .word .ensures) (sym (c .before .is-persistent .ensures) ∙ c .if2 .left))
+    sym (c .before .before .before .before .loop .inv .1 ∙ ordinary-here (c .before .before .before .before .before .before .before .before .before .before .args .table .now) (c .before .before .before .before .before .before .before .before .before .before .args .users .now) (c .before .before .before .before .before .before .before .before .before .before .args .post .now) (c .before .before .before .before .loop .i) (c .before .before .word-within .result) (omega arith) (c .before .before .word-within .ensures) (sym (c .before .is-persistent .ensures) ∙ c .if2 .left))
 
 loop-again : tie.Need-loop-again Inv-loop μ-loop
 loop-again c =
-    (omega arith, c .before .before .before .before .before .before .loop .inv .1 ∙ unused-next (c .before .before .before .before .before .before .before .before .before .before .before .before .args .table .now) (c .before .before .before .before .before .before .before .before .before .before .before .before .args .users .now) (c .before .before .before .before .before .before .before .before .before .before .before .before .args .post .now) (c .before .before .before .before .before .before .loop .i) (c .before .before .before .before .word .result) (omega arith) (c .before .before .before .before .word .ensures) (sym (c .before .before .before .is-persistent .ensures) ∙ c .before .before .if2 .taken) (sym (c .before .number .ensures) ∙ c .if3 .left))
+    (omega arith, c .before .before .before .before .before .before .loop .inv .1 ∙ unused-next (c .before .before .before .before .before .before .before .before .before .before .before .before .args .table .now) (c .before .before .before .before .before .before .before .before .before .before .before .before .args .users .now) (c .before .before .before .before .before .before .before .before .before .before .before .before .args .post .now) (c .before .before .before .before .before .before .loop .i) (c .before .before .before .before .word-within .result) (omega arith) (c .before .before .before .before .word-within .ensures) (sym (c .before .before .before .is-persistent .ensures) ∙ c .before .before .if2 .taken) (sym (c .before .number .ensures) ∙ c .if3 .left))
 
 returns-4 : tie.Need-returns-4 Inv-loop μ-loop
 returns-4 c =
