@@ -14,9 +14,13 @@ use Rattle.refusal.specs.declared.Judged.the-variants.{Fine}
 use Rattle.refusal.specs.Answer.{refusedAt}
 use Rattle.records.specs.Records.{flags}
 
+-- A condition's byte among the conditions' bytes says that it is persistent (01, Table records).
+abbrev pub flaggedIn : List ℕ → ℕ → Bool
+flaggedIn bytes b = eqb (getD bytes b 0) 1
+
 -- A condition's byte says that it is persistent (01, Table records).
 abbrev pub flagged : List ℕ → ℕ → Bool
-flagged s b = eqb (getD (flags s) b 0) 1
+flagged s b = flaggedIn (flags s) b
 
 -- The numbers of markers of the persistent ones in a list, one for each (01, Unfolding).
 abbrev pub radices : List ℕ → List ℕ → List ℕ → List ℕ

@@ -4,10 +4,11 @@ use refusal::Judged;
 ghost use mathlib.Core.Path.{_≡_};
 ghost use Prim.Native.Nat.{_*_, _≤_};
 ghost use lib.ListN.{length};
+ghost use Rattle.lists.specs.Lists.{index};
 ghost use Rattle.words.specs.Words.{words};
 ghost use Rattle.table.specs.Decoded.{netOf};
 ghost use Rattle.records.specs.Records.{conditions};
-ghost use Rattle.layout.specs.Colours.{flagged, radices, product, capped, widthAt, idleAt, eventsOf};
+ghost use Rattle.layout.specs.Colours.{flaggedIn, flagged, radices, product, capped, widthAt, idleAt, eventsOf};
 ghost use Rattle.layout.specs.Laid.{Low, Sums, Counted, LaidOut};
 
 // Whether condition b is persistent.
@@ -29,20 +30,32 @@ fn capped_product(a: u32, b: u32) -> u32
     if p <= 65536 { p as u32 } else { 65536 }
 }
 
+// Where the first persistent condition of a list stands, in bytes; past the last where there is none.
+fn first_persistent<'a>(flags: &'a [u8], list: &'a [u8]) -> usize
+    ensures { λ r. ⌜ r ≡ 2 * index (flaggedIn (now (flags .entry))) (words (now (list .entry))) ⌝ }
+{
+    let mut i: usize = 0;
+    while 1 < list.len() - i {
+        if words::byte(flags, words::word_within(list, i) as usize) == 1 {
+            return i;
+        }
+        i = i + 2;
+    }
+    i
+}
+
 // How many colours an event has: a recursion down its persistent preconditions, capped above the limit.
 pub fn colours<'a>(table: &'a [u8], markers: &[u32], pre: &'a [u8]) -> u32
     ensures { λ r. ⌜ r ≡ capped (product (radices (now (table .entry)) (now (markers .entry)) (words (now (pre .entry))))) ⌝ }
 {
-    if pre.len() < 2 {
+    let n = words::word(table, 0) as usize;
+    let i = first_persistent(records::part_of(table, 4, n), pre);
+    if pre.len() - i < 2 {
         return 1;
     }
-    let rest = colours(table, markers, &pre[2..]);
-    let b = words::word(pre, 0) as usize;
-    if is_persistent(table, b) {
-        capped_product(tally::number(markers, b), rest)
-    } else {
-        rest
-    }
+    let b = words::word_within(pre, i) as usize;
+    let rest = colours(table, markers, &pre[i + 2..]);
+    capped_product(tally::number(markers, b), rest)
 }
 
 // Whether an event with these lists touches nothing once unfolded.
