@@ -46,7 +46,7 @@ fn choose<'a>(
     let mut left = rest;
     let mut i: usize = 0;
     while 1 < pre.len() - i {
-        let b = words::word(pre, i) as usize;
+        let b = words::word_within(pre, i) as usize;
         above = above / choices(table, markers, b);
         chosen[b] = left / above;
         left = left % above;

@@ -23,24 +23,24 @@ loop-holds c =
 
 div-above : tie.Need-div-above Inv-loop μ-loop
 div-above c =
-    walk-divides (c .before .before .before .before .before .before .before .before .args .table .now) (c .before .before .before .before .before .before .before .before .args .markers .now) (c .before .before .before .before .before .before .before .before .args .pre .now) (c .before .before .before .loop .i) (c .before .before .before .loop .above) (c .before .before .before .loop .left) (c .before .word .result) (c .choices .result) (c .before .before .loop-test .taken) (c .before .word .ensures) (c .before .before .before .loop .inv .2) (c .choices .ensures)
+    walk-divides (c .before .before .before .before .before .before .before .before .args .table .now) (c .before .before .before .before .before .before .before .before .args .markers .now) (c .before .before .before .before .before .before .before .before .args .pre .now) (c .before .before .before .loop .i) (c .before .before .before .loop .above) (c .before .before .before .loop .left) (c .before .word-within .result) (c .choices .result) (c .before .before .loop-test .taken) (c .before .word-within .ensures) (c .before .before .before .loop .inv .2) (c .choices .ensures)
 
 div-chosen : tie.Need-div-chosen Inv-loop μ-loop
 div-chosen c =
-    walk-again (c .before .before .before .before .before .before .before .before .args .table .now) (c .before .before .before .before .before .before .before .before .args .markers .now) (c .before .before .before .before .before .before .before .before .args .pre .now) (c .before .before .before .loop .i) (c .before .before .before .loop .above) (c .before .before .before .loop .left) (c .before .word .result) (c .choices .result) (c .before .before .loop-test .taken) (c .before .word .ensures) (c .before .before .before .loop .inv .2) (c .choices .ensures)
+    walk-again (c .before .before .before .before .before .before .before .before .args .table .now) (c .before .before .before .before .before .before .before .before .args .markers .now) (c .before .before .before .before .before .before .before .before .args .pre .now) (c .before .before .before .loop .i) (c .before .before .before .loop .above) (c .before .before .before .loop .left) (c .before .word-within .result) (c .choices .result) (c .before .before .loop-test .taken) (c .before .word-within .ensures) (c .before .before .before .loop .inv .2) (c .choices .ensures)
 
 slice-write-chosen : tie.Need-slice-write-chosen Inv-loop μ-loop
 slice-write-chosen c =
-    omega (arith, walk-low (c .before .before .before .before .before .before .before .before .args .table .now) (c .before .before .before .before .before .before .before .before .args .markers .now) (c .before .before .before .before .before .before .before .before .args .pre .now) (c .before .before .before .loop .i) (c .before .before .before .loop .above) (c .before .before .before .loop .left) (c .before .word .result) (c .choices .result) (c .before .before .loop-test .taken) (c .before .word .ensures) (c .before .before .before .loop .inv .2) (c .choices .ensures))
+    omega (arith, walk-low (c .before .before .before .before .before .before .before .before .args .table .now) (c .before .before .before .before .before .before .before .before .args .markers .now) (c .before .before .before .before .before .before .before .before .args .pre .now) (c .before .before .before .loop .i) (c .before .before .before .loop .above) (c .before .before .before .loop .left) (c .before .word-within .result) (c .choices .result) (c .before .before .loop-test .taken) (c .before .word-within .ensures) (c .before .before .before .loop .inv .2) (c .choices .ensures))
 
 rem-left : tie.Need-rem-left Inv-loop μ-loop
 rem-left c =
-    walk-again (c .before .before .before .before .before .before .before .before .args .table .now) (c .before .before .before .before .before .before .before .before .args .markers .now) (c .before .before .before .before .before .before .before .before .args .pre .now) (c .before .before .before .loop .i) (c .before .before .before .loop .above) (c .before .before .before .loop .left) (c .before .word .result) (c .choices .result) (c .before .before .loop-test .taken) (c .before .word .ensures) (c .before .before .before .loop .inv .2) (c .choices .ensures)
+    walk-again (c .before .before .before .before .before .before .before .before .args .table .now) (c .before .before .before .before .before .before .before .before .args .markers .now) (c .before .before .before .before .before .before .before .before .args .pre .now) (c .before .before .before .loop .i) (c .before .before .before .loop .above) (c .before .before .before .loop .left) (c .before .word-within .result) (c .choices .result) (c .before .before .loop-test .taken) (c .before .word-within .ensures) (c .before .before .before .loop .inv .2) (c .choices .ensures)
 
 loop-again : tie.Need-loop-again Inv-loop μ-loop
 loop-again c =
-    let on = walk-chosen (c .before .before .before .before .before .before .before .before .args .table .now) (c .before .before .before .before .before .before .before .before .args .markers .now) (c .before .before .before .before .before .before .before .before .args .pre .now) (c .before .before .before .loop .i) (c .before .before .before .loop .above) (c .before .before .before .loop .left) (c .before .word .result) (c .choices .result) (c .before .before .loop-test .taken) (c .before .word .ensures) (c .before .before .before .loop .inv .2) (c .choices .ensures) (c .before .before .before .loop .chosen) in
-    (omega arith, simp length-set (c .before .before .before .loop .inv .1), walk-choosing (c .before .before .before .before .before .before .before .before .args .table .now) (c .before .before .before .before .before .before .before .before .args .markers .now) (c .before .before .before .before .before .before .before .before .args .pre .now) (c .before .before .before .loop .i) (c .before .before .before .loop .above) (c .before .before .before .loop .left) (c .before .word .result) (c .choices .result) (c .before .before .loop-test .taken) (c .before .word .ensures) (c .before .before .before .loop .inv .2) (c .choices .ensures), sym on ∙ c .before .before .before .loop .inv .3)
+    let on = walk-chosen (c .before .before .before .before .before .before .before .before .args .table .now) (c .before .before .before .before .before .before .before .before .args .markers .now) (c .before .before .before .before .before .before .before .before .args .pre .now) (c .before .before .before .loop .i) (c .before .before .before .loop .above) (c .before .before .before .loop .left) (c .before .word-within .result) (c .choices .result) (c .before .before .loop-test .taken) (c .before .word-within .ensures) (c .before .before .before .loop .inv .2) (c .choices .ensures) (c .before .before .before .loop .chosen) in
+    (omega arith, simp length-set (c .before .before .before .loop .inv .1), walk-choosing (c .before .before .before .before .before .before .before .before .args .table .now) (c .before .before .before .before .before .before .before .before .args .markers .now) (c .before .before .before .before .before .before .before .before .args .pre .now) (c .before .before .before .loop .i) (c .before .before .before .loop .above) (c .before .before .before .loop .left) (c .before .word-within .result) (c .choices .result) (c .before .before .loop-test .taken) (c .before .word-within .ensures) (c .before .before .before .loop .inv .2) (c .choices .ensures), sym on ∙ c .before .before .before .loop .inv .3)
 
 returns : tie.Need-returns Inv-loop μ-loop
 returns c =
