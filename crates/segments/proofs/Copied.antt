@@ -78,7 +78,7 @@ module _ (n : Net) (b : ℕ) (p : n .persistent b ≡ true) where
     first = base + (1 + length (having n true b e)) * length (users n b)
 
     abbrev size : ℕ
-    size = sizeIf post (listOf n post e) b (length (users n b))
+    size = sizeIf post (mem b (listOf n post e)) (length (users n b))
 
     touch-is : (t : Bool) (m : Marker) (u : ℕ) → touching n t x (copy b m u) ≡ (takes n x (copy b m u) || (t && (sameMarker m (byEvent e) && mem b (n .postconditions e))))
     unfolding puts
@@ -87,7 +87,7 @@ module _ (n : Net) (b : ℕ) (p : n .persistent b ≡ true) where
 
     -- the copies that the event marks are one range
     put-range : (r : ℕ) (y : UnfoldedCondition) (c : CopyAt r y) (t : Bool)
-        → (t && (sameMarker (c .marker) (byEvent e) && mem b (n .postconditions e))) ≡ inside first (sizeIf t (listOf n t e) b (length (users n b))) (base + r)
+        → (t && (sameMarker (c .marker) (byEvent e) && mem b (n .postconditions e))) ≡ inside first (sizeIf t (mem b (listOf n t e)) (length (users n b))) (base + r)
     put-range r y c false = sym (nothing-in first (base + r))
     put-range r y c true = go (mem b (n .postconditions e)) refl
       where
@@ -122,7 +122,7 @@ module _ (n : Net) (b : ℕ) (p : n .persistent b ≡ true) where
         none-put : q * length (users n b) ≤ length (markers n b) * length (users n b)
         none-put = mul-le-mul-right {m = q} {n = length (markers n b)} (length (users n b)) (marker-most n b e h)
 
-        go : (t : Bool) → first + sizeIf t (listOf n t e) b (length (users n b)) ≤ base + length (markers n b) * length (users n b)
+        go : (t : Bool) → first + sizeIf t (mem b (listOf n t e)) (length (users n b)) ≤ base + length (markers n b) * length (users n b)
         go false = omega (arith, none-put)
         go true = put (mem b (n .postconditions e)) refl
           where
@@ -199,7 +199,7 @@ module _ (n : Net) (b : ℕ) (p : n .persistent b ≡ true) where
 
 -- an ordinary condition stands for itself
 module _ (n : Net) (b : ℕ) (p : n .persistent b ≡ false) (post : Bool) (x : UnfoldedEvent) where
-  pub ordinary-added : within (aloneOf (sum (width n) b) (sizeIf true (listOf n post (x .event)) b 1)) ≡ added n post x b
+  pub ordinary-added : within (aloneOf (sum (width n) b) (sizeIf true (mem b (listOf n post (x .event))) 1)) ≡ added n post x b
   unfolding added copies takes puts
   ordinary-added = rw p (go post)
     where
@@ -207,6 +207,6 @@ module _ (n : Net) (b : ℕ) (p : n .persistent b ≡ false) (post : Bool) (x : 
       alone true = refl
       alone false = refl
 
-      go : (t : Bool) → within (aloneOf (sum (width n) b) (sizeIf true (listOf n t (x .event)) b 1)) ≡ places-from (sum (width n) b) (touching n t x) (ordinary b ∷ [])
+      go : (t : Bool) → within (aloneOf (sum (width n) b) (sizeIf true (mem b (listOf n t (x .event))) 1)) ≡ places-from (sum (width n) b) (touching n t x) (ordinary b ∷ [])
       go true = alone (mem b (n .postconditions (x .event)))
       go false = alone (mem b (n .preconditions (x .event)))

@@ -15,7 +15,7 @@ use Rattle.model.specs.Numbering.{ways, size, width, conditionCount}
 use Rattle.model.proofs.Unfolded.{in-pre, in-post}
 use Rattle.model.proofs.Counts.{width-copies, count-conditions}
 use Rattle.table.specs.Decoded.{netOf}
-use Rattle.tally.specs.Having.{listOf, listPart, Tally}
+use Rattle.tally.specs.Having.{listOf, listPart, Listed, Members, Tally}
 use Rattle.records.specs.Records.{conditions}
 use Rattle.layout.proofs.Limits.{conditions-are-all}
 use Rattle.tally.proofs.Events.{judged, list-read, list-inside, list-ascends}
@@ -68,9 +68,16 @@ module _ {s ms us bs : List ℕ} {e at weight rest : ℕ} (o : Owned s ms us bs 
         below = o .below;
       })
 
-  module _ (pre list mk uz ch zs : List ℕ) (post : Bool) (p : pre ≡ listPart false s at) (q : list ≡ listPart post s at)
+  pub list-fine : (post : Bool) (l : List ℕ) → l ≡ listPart post s at → Listed l
+  list-fine post l p =
+      record {
+        ascends = rw (list-known post l p) (list-ascends s e (o .event) post);
+        inside = λ b t. list-inside s e (o .event) post b (rw (list-known post l p) at t);
+      }
+
+  module _ (pre list members mk uz ch zs : List ℕ) (post : Bool) (p : pre ≡ listPart false s at) (q : list ≡ listPart post s at) (r : Members (words list) members)
       (m : Tally (netOf s) true 1 e mk) (u : Tally (netOf s) false 0 e uz) (c : ch ≡ chosenFrom s (words pre) rest zs) (z : length zs ≡ 256) where
-    pub known : Known s us bs mk uz ch pre list post e rest
+    pub known : Known s us bs mk uz ch pre members post e rest
     unfolding reads
     known =
         record {
@@ -82,11 +89,11 @@ module _ {s ms us bs : List ℕ} {e at weight rest : ℕ} (o : Owned s ms us bs 
           event = o .event;
           own-marks = m;
           own-uses = u;
-          places = λ b t r. rw (c, list-known false pre p)
+          places = λ b t f. rw (c, list-known false pre p)
               (chosen-at s (o .laid .counted .marked .flags) 0 (netOf s .preconditions e) (list-ascends s e (o .event) false) (λ b t. list-inside s e (o .event) false b t)
-              rest zs z (omega (arith, size-is, o .below)) b t r);
+              rest zs z (omega (arith, size-is, o .below)) b t f);
           reading = list-known false pre p;
-          listing = list-known post list q;
+          listing = λ b. r b ∙ ap (mem b) (list-known post list q);
         }
 
   pub all-conditions : conditions s ≡ netOf s .conditions

@@ -11,13 +11,13 @@ use Rattle.words.specs.Words.{words}
 use Rattle.model.specs.Unfolding.{markers, users}
 use Rattle.model.specs.Numbering.{width, conditionCount}
 use Rattle.table.specs.Decoded.{netOf}
-use Rattle.tally.specs.Having.{listOf, having}
+use Rattle.tally.specs.Having.{oneAt, listOf, having}
 use Rattle.layout.specs.Colours.{flagged}
 use Rattle.layout.proofs.Counts.{sum-part}
 use Rattle.segments.specs.Ranges.{within, aloneOf, joinedOf, eventAt, added, sizeIf, Known}
 use Rattle.segments.proofs.Copied.{first-most, unread-added, taken-most, read-added, ordinary-added}
 
-module _ {s us bs mk uz ch pre list : List ℕ} {post : Bool} {e rest : ℕ} (k : Known s us bs mk uz ch pre list post e rest) (b : ℕ) (h : b < netOf s .conditions) where
+module _ {s us bs mk uz ch pre members : List ℕ} {post : Bool} {e rest : ℕ} (k : Known s us bs mk uz ch pre members post e rest) (b : ℕ) (h : b < netOf s .conditions) where
   low : b < 256
   low = omega (arith, k .limits .few-conditions)
 
@@ -38,11 +38,11 @@ module _ {s us bs mk uz ch pre list : List ℕ} {post : Bool} {e rest : ℕ} (k 
   unfolding conditionCount
   within-limit = omega (arith, sum-part (width (netOf s)) (netOf s .conditions) b h, k .few)
 
-  size-is : (t : Bool) (w : ℕ) → sizeIf t (words list) b w ≡ sizeIf t (listOf (netOf s) post e) b w
-  size-is t w = rw (k .listing)
+  size-is : (t : Bool) (w : ℕ) → sizeIf t (oneAt members b) w ≡ sizeIf t (mem b (listOf (netOf s) post e)) w
+  size-is t w = rw (k .listing b)
 
   -- the numbers that are read for a persistent condition
-  module _ (q : flagged s b ≡ true) (base wide mark size : ℕ) (ib : base ≡ getD bs b 0) (iw : wide ≡ getD us b 0) (im : mark ≡ getD mk b 0) (iz : size ≡ sizeIf post (words list) b wide) where
+  module _ (q : flagged s b ≡ true) (base wide mark size : ℕ) (ib : base ≡ getD bs b 0) (iw : wide ≡ getD us b 0) (im : mark ≡ getD mk b 0) (iz : size ≡ sizeIf post (oneAt members b) wide) where
     lasts : netOf s .persistent b ≡ true
     lasts = sym (k .flags b) ∙ q
 
@@ -59,7 +59,7 @@ module _ {s us bs mk uz ch pre list : List ℕ} {post : Bool} {e rest : ℕ} (k 
     im₂ : mark ≡ 1 + length (having (netOf s) true b e)
     im₂ = im ∙ mark-is
 
-    iz₂ : size ≡ sizeIf post (listOf (netOf s) post e) b (length (users (netOf s) b))
+    iz₂ : size ≡ sizeIf post (mem b (listOf (netOf s) post e)) (length (users (netOf s) b))
     iz₂ = iz ∙ size-is post wide ∙ rw iw₂
 
     pub first-fits : base + mark * wide + size ≤ 65535
@@ -89,12 +89,12 @@ module _ {s us bs mk uz ch pre list : List ℕ} {post : Bool} {e rest : ℕ} (k 
           (read-added (netOf s) b lasts post e (k .event) (eventAt (netOf s) e rest .colour) reads (getD ch b 0) (chose .0) (chose .1))
 
   -- and for an ordinary one
-  module _ (q : flagged s b ≡ false) (base size : ℕ) (ib : base ≡ getD bs b 0) (iz : size ≡ sizeIf true (words list) b 1) where
+  module _ (q : flagged s b ≡ false) (base size : ℕ) (ib : base ≡ getD bs b 0) (iz : size ≡ sizeIf true (oneAt members b) 1) where
     plain : netOf s .persistent b ≡ false
     plain = sym (k .flags b) ∙ q
 
     pub ordinary-fits : base + size ≤ 65536
-    ordinary-fits = rw (ib, base-is, iz) (omega (arith, within-limit, small (mem b (words list))))
+    ordinary-fits = rw (ib, base-is, iz) (omega (arith, within-limit, small (oneAt members b)))
       where
         small : (t : Bool) → cond t 1 0 ≤ 1
         small true = omega arith

@@ -15,7 +15,7 @@ use Rattle.words.specs.Words.{words}
 use Rattle.table.specs.Walk.{offsetOf}
 use Rattle.table.specs.Decoded.{netOf}
 use Rattle.table.specs.Tabled.{Tabled}
-use Rattle.tally.specs.Having.{Tally, listOf}
+use Rattle.tally.specs.Having.{Members, Tally, listOf}
 use Rattle.layout.specs.Colours.{flagged}
 use Rattle.layout.specs.Laid.{Marked, Laid, Sums}
 use Rattle.unfolding.specs.Numbers.{choicesOf}
@@ -80,9 +80,9 @@ touching n false x = takes n x
 unfoldable pub added : Net → Bool → UnfoldedEvent → ℕ → List ℕ
 added n post x b = places-from (sum (width n) b) (touching n post x) (copies n b)
 
--- The size of a range where a list has b.
-abbrev pub sizeIf : Bool → List ℕ → ℕ → ℕ → ℕ
-sizeIf counts list b size = cond (counts && mem b list) size 0
+-- The size of a range that counts and whose condition is a member.
+abbrev pub sizeIf : Bool → Bool → ℕ → ℕ
+sizeIf counts member size = cond (counts && member) size 0
 
 -- The place of the chosen marker is written for each persistent precondition (01, Unfolding).
 abbrev pub Chosen : Net → ℕ → ℕ → List ℕ → Type 0
@@ -92,8 +92,8 @@ Chosen n e rest chosen =
     × ((m : Marker) → picked (reads n e) (digits (map (markers n) (reads n e)) rest) b m ≡ sameMarker m (getD (markers n b) (getD chosen b 0) atStart))
 
 -- All that is read of one unfolded event and one of its lists: the table's numbers, the places of its event among markers and users,
--- the places of the chosen markers, its preconditions and the list (01, Unfolding).
-pub record Known (s users bases marks uses chosen pre list : List ℕ) (post : Bool) (e rest : ℕ) : Type 0 where
+-- the places of the chosen markers, its preconditions and the list's members (01, Unfolding).
+pub record Known (s users bases marks uses chosen pre members : List ℕ) (post : Bool) (e rest : ℕ) : Type 0 where
   pub limits : Tabled (netOf s)
   pub flags : (b : ℕ) → flagged s b ≡ netOf s .persistent b
   pub used : Tally (netOf s) false 0 (netOf s .events) users
@@ -104,7 +104,7 @@ pub record Known (s users bases marks uses chosen pre list : List ℕ) (post : B
   pub own-uses : Tally (netOf s) false 0 e uses
   pub places : Chosen (netOf s) e rest chosen
   pub reading : words pre ≡ netOf s .preconditions e
-  pub listing : words list ≡ listOf (netOf s) post e
+  pub listing : Members (listOf (netOf s) post e) members
 
 -- An event of a table that is laid out, with its record's offset, its number of colours and what is left of a number (01, Unfolding).
 pub record Owned (s ms us bases : List ℕ) (e at weight rest : ℕ) : Type 0 where

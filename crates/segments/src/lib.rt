@@ -8,6 +8,7 @@ ghost use Rattle.words.specs.Words.{words};
 ghost use Rattle.records.specs.Records.{conditions};
 ghost use Rattle.model.specs.Numbering.{size};
 ghost use Rattle.table.specs.Decoded.{netOf};
+ghost use Rattle.tally.specs.Having.{oneAt};
 ghost use Rattle.segments.specs.Ranges.{ranged, within, aloneOf, joinedOf, choicesAt, chosenFrom, Choosing, eventAt, added, sizeIf, Known, Owned, Ranges};
 
 // The numbers that one condition of the table adds to a list: one range, then another.
@@ -91,12 +92,12 @@ fn joined(taken: u32, first: u32, size: u32) -> Segment
     }
 }
 
-// The size of a range where a list has b, else none.
-fn size_if(counts: bool, list: &[u8], b: usize, size: u32) -> u32
-    ensures { λ r. ⌜ r ≡ sizeIf counts (words (now (list .entry))) b size ⌝ }
+// The size of a range where b is a member, else none.
+fn size_if(counts: bool, members: &[u32], b: usize, size: u32) -> u32
+    ensures { λ r. ⌜ r ≡ sizeIf counts (oneAt (now (members .entry)) b) size ⌝ }
 {
     if counts {
-        if words::has(list, b) {
+        if tally::number(members, b) == 1 {
             return size;
         }
     }
@@ -113,13 +114,13 @@ fn segment_at<'a>(
     uses: &'a [u32],
     chosen: &'a [u32],
     pre: &'a [u8],
-    list: &'a [u8],
+    members: &'a [u32],
     post: bool,
     e: usize,
     rest: u32,
     b: usize,
 ) -> Segment
-    requires { ⌜ Known (now table) (now users) (now bases) (now marks) (now uses) (now chosen) (now pre) (now list) post e rest ⌝ }
+    requires { ⌜ Known (now table) (now users) (now bases) (now marks) (now uses) (now chosen) (now pre) (now members) post e rest ⌝ }
     requires { ⌜ b < netOf (now table) .conditions ⌝ }
     ensures { λ r. ⌜ within r ≡ added (netOf (now (table .entry))) post (eventAt (netOf (now (table .entry))) e rest) b ⌝ }
 {
@@ -127,14 +128,14 @@ fn segment_at<'a>(
     if layout::is_persistent(table, b) {
         let width = tally::number(users, b);
         let first = base + tally::number(marks, b) * width;
-        let size = size_if(post, list, b, width);
+        let size = size_if(post, members, b, width);
         if words::has(pre, b) {
             let taken = base + tally::number(chosen, b) * width + tally::number(uses, b);
             return joined(taken, first, size);
         }
         return alone(first, size);
     }
-    alone(base, size_if(true, list, b, 1))
+    alone(base, size_if(true, members, b, 1))
 }
 
 // The segments of all conditions, as ranges two by two.
@@ -146,14 +147,14 @@ fn lay<'a>(
     uses: &'a [u32],
     chosen: &'a [u32],
     pre: &'a [u8],
-    list: &'a [u8],
+    members: &'a [u32],
     post: bool,
     e: usize,
     rest: u32,
     starts: &mut [u32],
     sizes: &mut [u32],
 )
-    requires { ⌜ Known (now table) (now users) (now bases) (now marks) (now uses) (now chosen) (now pre) (now list) post e rest ⌝ }
+    requires { ⌜ Known (now table) (now users) (now bases) (now marks) (now uses) (now chosen) (now pre) (now members) post e rest ⌝ }
     requires { ⌜ conditions (now table) ≡ netOf (now table) .conditions ⌝ }
     requires { ⌜ length (now starts) ≡ 512 ⌝ }
     requires { ⌜ length (now sizes) ≡ 512 ⌝ }
@@ -170,7 +171,7 @@ fn lay<'a>(
             uses,
             chosen,
             pre,
-            list,
+            members,
             post,
             e,
             rest,
@@ -210,7 +211,7 @@ pub fn ranges<'a>(
     tally::tally(table, e, false, 0, &mut uses);
     let pre = tally::list_at(table, at, false);
     choose(table, markers, pre, weight, rest, &mut chosen);
-    let list = tally::list_at(table, at, post);
+    let members = tally::members(tally::list_at(table, at, post));
     lay(
         table,
         users,
@@ -219,7 +220,7 @@ pub fn ranges<'a>(
         &uses,
         &chosen,
         pre,
-        list,
+        &members,
         post,
         e,
         rest,

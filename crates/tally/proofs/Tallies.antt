@@ -7,16 +7,17 @@ use native.Mathlib.Nat.{zero-add}
 use mathlib.Core.Path.{_≡_, refl, ap, _∙_}
 use mathlib.Core.List.{List, [], _∷_, _++_}
 use mathlib.Core.Bool.{Bool, true, false, cond}
-use lib.Dec.{T, eqb}
+use lib.Dec.{T, eqb, eqb→eq}
 use lib.ListN.{length, getD, length-append, List·getD-eq-default}
 use borrow.Author.Tests.{eq-eqb, ne-eqb}
-use Rattle.lists.specs.Lists.{mem, index, keep, count}
+use Rattle.lists.specs.Lists.{mem, all, index, keep, count}
+use Rattle.lists.proofs.Bools.{and-left, and-right}
 use Rattle.lists.proofs.Positions.{count-split}
 use Rattle.model.specs.Net.{Net}
 use Rattle.words.specs.Words.{words}
 use Rattle.table.specs.Decoded.{netOf}
 use Rattle.table.specs.Walk.{offsetOf}
-use Rattle.tally.specs.Having.{listOf, listPart, havingFrom, having, raised, Room, Tally, Filled}
+use Rattle.tally.specs.Having.{listOf, listPart, havingFrom, having, raised, Room, Listed, Members, Tally, Filled}
 use Rattle.tally.proofs.Lists.{one, raised-length, raised-at, words-long, ascending-short}
 use Rattle.tally.proofs.Events.{within-limits, list-read, list-ascends, list-inside}
 
@@ -81,6 +82,32 @@ module _ (s : List ℕ) (post : Bool) (first k : ℕ) (counts : List ℕ) (small
         size = raised-length counts (listOf (netOf s) post k) ∙ t .size;
         at = λ b l. omega (arith, raised-at 0 counts (listOf (netOf s) post k) (list-ascends s k h post) inside b, t .at b l, keep-more (λ e. mem b (listOf (netOf s) post e)) k);
       })
+
+-- ---- the members of a list
+
+all-zero : (l : List ℕ) → T (all (λ x. eqb x 0) l) → (b : ℕ) → getD l b 0 ≡ 0
+all-zero [] t b = refl
+all-zero (x ∷ l) t zero = eqb→eq x 0 (and-left (eqb x 0) (all (λ x. eqb x 0) l) t)
+all-zero (x ∷ l) t (suc b) = all-zero l (and-right (eqb x 0) (all (λ x. eqb x 0) l) t) b
+
+module _ (list zs : List ℕ) (l : Listed list) (size : length zs ≡ 256) (t : T (all (λ x. eqb x 0) zs)) where
+  pub members-room : Room zs list
+  members-room =
+      record {
+        inside = λ b m. omega (arith, l .inside b m);
+        low = λ b. omega (arith, all-zero zs t b);
+        few = omega (arith, words-long list, ascending-short 256 0 (words list) (omega arith) (l .ascends) (l .inside));
+      }
+
+  pub members-one : (counts : List ℕ) → counts ≡ raised zs (words list) → Members (words list) counts
+  members-one counts e b =
+      let x : getD (raised zs (words list)) b 0 ≡ one (mem b (words list))
+      = omega (arith, raised-at 0 zs (words list) (l .ascends) (λ y m. omega (arith, l .inside y m)) b, all-zero zs t b) in
+      rw (e, x) (go (mem b (words list)))
+    where
+      go : (t : Bool) → eqb (one t) 1 ≡ t
+      go true = refl
+      go false = refl
 
 -- ---- the n-th and the place, at event i of so many
 

@@ -3,9 +3,9 @@ use Prim.Native.Nat.{ℕ, _+_, _≤_, _<_}
 use mathlib.Core.Path.{_≡_}
 use mathlib.Core.List.{List, [], _∷_}
 use mathlib.Core.Bool.{Bool, true, false}
-use lib.Dec.{T}
+use lib.Dec.{T, eqb}
 use lib.ListN.{length, getD, set}
-use Rattle.lists.specs.Lists.{mem, keep, count}
+use Rattle.lists.specs.Lists.{mem, ascending, keep, count}
 use Rattle.model.specs.Net.{Net}
 use Rattle.words.specs.Words.{words}
 use Rattle.records.specs.Records.{prePart, postPart}
@@ -39,6 +39,19 @@ pub record Room (counts list : List ℕ) : Type 0 where
   pub inside : (b : ℕ) → T (mem b (words list)) → b < length counts
   pub low : (b : ℕ) → getD counts b 0 ≤ 1000
   pub few : length list ≤ 513
+
+-- A list of conditions that ascends, each of which can have a number (01, Table records).
+pub record Listed (list : List ℕ) : Type 0 where
+  pub ascends : T (ascending (words list))
+  pub inside : (b : ℕ) → T (mem b (words list)) → b < 256
+
+-- The number that stands for b is 1.
+abbrev pub oneAt : List ℕ → ℕ → Bool
+oneAt counts b = eqb (getD counts b 0) 1
+
+-- The numbers that are 1 are those of the members of a list.
+abbrev pub Members : List ℕ → List ℕ → Type 0
+Members l counts = (b : ℕ) → oneAt counts b ≡ mem b l
 
 -- Each of 256 numbers counts, from a first number on, the events of the first k that have its condition in a list.
 pub record Tally (n : Net) (post : Bool) (first k : ℕ) (counts : List ℕ) : Type 0 where

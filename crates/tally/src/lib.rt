@@ -7,7 +7,7 @@ ghost use lib.ListN.{length, getD};
 ghost use Rattle.lists.specs.Lists.{index};
 ghost use Rattle.words.specs.Words.{words};
 ghost use Rattle.table.specs.Decoded.{netOf};
-ghost use Rattle.tally.specs.Having.{listPart, having, raised, Room, Tally, Filled};
+ghost use Rattle.tally.specs.Having.{listPart, having, raised, Room, Listed, Members, Tally, Filled};
 
 // One of the two lists of the Event record at an offset: the postconditions, or the preconditions.
 pub fn list_at(table: &[u8], at: usize, post: bool) -> &[u8]
@@ -49,6 +49,16 @@ pub fn raise(counts: &mut [u32], list: &[u8])
         counts[b] = counts[b] + 1;
         i = i + 2;
     }
+}
+
+// 1 for each condition of a list, 0 for every other.
+pub fn members(list: &[u8]) -> [u32; 256]
+    requires { ⌜ Listed (now list) ⌝ }
+    ensures { λ r. ⌜ Members (words (now (list .entry))) r ⌝ }
+{
+    let mut counts = [0u32; 256];
+    raise(&mut counts, list);
+    counts
 }
 
 // For each condition, from a first number on, how many of the first events have it in a list.

@@ -1,7 +1,7 @@
 -- `segments::segment_at` meets its contract.
 use native.Mathlib.Omega.{arith}
 use mathlib.Core.Path.{refl, _∙_, sym, ap}
-use Rattle.words.specs.Words.{words}
+use Rattle.tally.specs.Having.{oneAt}
 use Rattle.segments.specs.declared.Segment.{Segment}
 use Rattle.segments.specs.Ranges.{within, sizeIf}
 use Rattle.segments.proofs.Segmented.{first-fits, unread-segment, taken-fits, read-segment, ordinary-fits, ordinary-segment}
@@ -11,11 +11,11 @@ use Rattle.segments.proofs.segment_at.Tie as tie
 
 mul-first : tie.Need-mul-first
 mul-first c =
-    omega (arith, first-fits (c .before .before .before .before .before .before .before .before .before .before .before .before .before .pre .0) (c .before .before .before .before .before .before .before .before .before .before .before .before .before .args .b) (c .before .before .before .before .before .before .before .before .before .before .before .before .before .pre .1) (sym (c .before .before .before .is-persistent .ensures) ∙ c .before .before .if1 .taken) (c .before .before .before .before .number .result) (c .before .number2 .result) (c .number3 .result) (sizeIf (c .before .before .before .before .before .before .before .before .before .before .before .before .before .args .post) (words (c .before .before .before .before .before .before .before .before .before .before .before .before .before .args .list .now)) (c .before .before .before .before .before .before .before .before .before .before .before .before .before .args .b) (c .before .number2 .result)) (c .before .before .before .before .number .ensures) (c .before .number2 .ensures) (c .number3 .ensures) refl)
+    omega (arith, first-fits (c .before .before .before .before .before .before .before .before .before .before .before .before .before .pre .0) (c .before .before .before .before .before .before .before .before .before .before .before .before .before .args .b) (c .before .before .before .before .before .before .before .before .before .before .before .before .before .pre .1) (sym (c .before .before .before .is-persistent .ensures) ∙ c .before .before .if1 .taken) (c .before .before .before .before .number .result) (c .before .number2 .result) (c .number3 .result) (sizeIf (c .before .before .before .before .before .before .before .before .before .before .before .before .before .args .post) (oneAt (c .before .before .before .before .before .before .before .before .before .before .before .before .before .args .members .now) (c .before .before .before .before .before .before .before .before .before .before .before .before .before .args .b)) (c .before .number2 .result)) (c .before .before .before .before .number .ensures) (c .before .number2 .ensures) (c .number3 .ensures) refl)
 
 add-first : tie.Need-add-first
 add-first c =
-    omega (arith, first-fits (c .before .before .before .before .before .before .before .before .before .before .before .before .before .pre .0) (c .before .before .before .before .before .before .before .before .before .before .before .before .before .args .b) (c .before .before .before .before .before .before .before .before .before .before .before .before .before .pre .1) (sym (c .before .before .before .is-persistent .ensures) ∙ c .before .before .if1 .taken) (c .before .before .before .before .number .result) (c .before .number2 .result) (c .number3 .result) (sizeIf (c .before .before .before .before .before .before .before .before .before .before .before .before .before .args .post) (words (c .before .before .before .before .before .before .before .before .before .before .before .before .before .args .list .now)) (c .before .before .before .before .before .before .before .before .before .before .before .before .before .args .b) (c .before .number2 .result)) (c .before .before .before .before .number .ensures) (c .before .number2 .ensures) (c .number3 .ensures) refl)
+    omega (arith, first-fits (c .before .before .before .before .before .before .before .before .before .before .before .before .before .pre .0) (c .before .before .before .before .before .before .before .before .before .before .before .before .before .args .b) (c .before .before .before .before .before .before .before .before .before .before .before .before .before .pre .1) (sym (c .before .before .before .is-persistent .ensures) ∙ c .before .before .if1 .taken) (c .before .before .before .before .number .result) (c .before .number2 .result) (c .number3 .result) (sizeIf (c .before .before .before .before .before .before .before .before .before .before .before .before .before .args .post) (oneAt (c .before .before .before .before .before .before .before .before .before .before .before .before .before .args .members .now) (c .before .before .before .before .before .before .before .before .before .before .before .before .before .args .b)) (c .before .number2 .result)) (c .before .before .before .before .number .ensures) (c .before .number2 .ensures) (c .number3 .ensures) refl)
 
 mul-taken : tie.Need-mul-taken
 mul-taken c =
