@@ -16,9 +16,9 @@ use Rattle.refusal.specs.declared.Judged.the-variants.{Fine, Refused}
 use Rattle.refusal.specs.Answer.{need, andThen, fitting, written}
 use Rattle.records.specs.Records.{conditions, prePart, postPart}
 use Rattle.table.specs.Walk.{judgeOf}
-use Rattle.table.specs.Asked.{askedOf}
+use Rattle.parts.specs.Asked.{askedOf}
 use Rattle.table.specs.Decoded.{netOf}
-use Rattle.table.proofs.Decoded.{asked-fine}
+use Rattle.parts.proofs.Asking.{asked-fine}
 use Rattle.table.proofs.Sound.{tabled}
 use Rattle.game.specs.Calls.{leaves}
 use Rattle.game.proofs.Marked.{conditions-are}

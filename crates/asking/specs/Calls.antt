@@ -7,7 +7,7 @@ use Rattle.model.specs.Lent.{bytes}
 use Rattle.refusal.specs.declared.Judged.{Judged}
 use Rattle.refusal.specs.Answer.{andThen, fitting, written}
 use Rattle.table.specs.Walk.{judgeOf}
-use Rattle.table.specs.Asked.{askedOf}
+use Rattle.parts.specs.Asked.{askedOf}
 use Rattle.table.specs.Decoded.{netOf}
 
 -- The preconditions of event e, with room for so many: 1 to 9, 10, then 16; fine: how many (01, Table records and Refusal numbers).

@@ -29,7 +29,7 @@ pub fn preconditions(table: &[u8], e: TableEvent, out: &mut [u16]) -> Judged
     ensures answer { λ r. ⌜ r ≡ preconditionsOf (now (table .entry)) (e .0) (length (now (out .entry))) ⌝ }
     ensures after { λ _. ⌜ now (out .exit) ≡ preconditionsInto (now (table .entry)) (e .0) (now (out .entry)) ⌝ }
 {
-    let r = table::asked(table, e);
+    let r = parts::asked(table, e);
     let Judged::Fine(at) = r else {
         return r;
     };
@@ -41,7 +41,7 @@ pub fn postconditions(table: &[u8], e: TableEvent, out: &mut [u16]) -> Judged
     ensures answer { λ r. ⌜ r ≡ postconditionsOf (now (table .entry)) (e .0) (length (now (out .entry))) ⌝ }
     ensures after { λ _. ⌜ now (out .exit) ≡ postconditionsInto (now (table .entry)) (e .0) (now (out .entry)) ⌝ }
 {
-    let r = table::asked(table, e);
+    let r = parts::asked(table, e);
     let Judged::Fine(at) = r else {
         return r;
     };

@@ -15,7 +15,7 @@ use Rattle.refusal.specs.declared.Judged.{Judged}
 use Rattle.refusal.specs.declared.Judged.the-variants.{Fine, Refused}
 use Rattle.refusal.specs.Answer.{written}
 use Rattle.table.specs.Decoded.{netOf}
-use Rattle.table.specs.Asked.{askedOf, askedConditionOf, persistenceIf, persistenceOf, persistenceNumber}
+use Rattle.parts.specs.Asked.{askedOf, askedConditionOf, persistenceIf, persistenceOf, persistenceNumber}
 use Rattle.game.specs.Calls.{leaves, fireOf, firedOf}
 use Rattle.replay.specs.Calls.{replayOf, endOf, replayFromOf, endFromOf}
 use Rattle.exchange.specs.Calls.{exchangeOf, exchangedOf}
@@ -37,8 +37,8 @@ use Rattle.promises.proofs.Refused.{listed-need, judge-listed, judged-l
 use Rattle.table.proofs.judge.Reads as judge
 use Rattle.table.proofs.condition_count.Reads as condition-count
 use Rattle.table.proofs.event_count.Reads as event-count
-use Rattle.table.proofs.asked.Reads as asked
-use Rattle.table.proofs.asked_condition.Reads as asked-condition
+use Rattle.parts.proofs.asked.Reads as asked
+use Rattle.parts.proofs.asked_condition.Reads as asked-condition
 use Rattle.game.proofs.concession.Reads as concession
 use Rattle.game.proofs.fire.Reads as fire
 use Rattle.replay.proofs.replay.Reads as replay
@@ -50,7 +50,7 @@ use Rattle.runs.proofs.write_run.Reads as write-run
 use Rattle.runs.proofs.write_lifted.Reads as write-lifted
 use Rattle.unfolding.proofs.condition_count.Reads as unfolded-condition-count
 use Rattle.unfolding.proofs.event_count.Reads as unfolded-event-count
-use Rattle.table.proofs.persistent.Reads as persistent
+use Rattle.parts.proofs.persistent.Reads as persistent
 use Rattle.unfolding.proofs.event_origin.Reads as event-origin
 use Rattle.unfolding.proofs.event_number.Reads as event-number
 use Rattle.conditions.proofs.ordinary_number.Reads as ordinary-number

@@ -33,7 +33,7 @@ use Rattle.across.specs.Calls.{fitted, ended}
 use Rattle.lift.specs.Calls.{liftOf}
 use Rattle.ends.specs.Calls.{liftEndOf, unfoldedReplayOf}
 use Rattle.project.specs.Calls.{projectOf}
-use Rattle.table.specs.Asked.{askedOf}
+use Rattle.parts.specs.Asked.{askedOf}
 use Rattle.reader.specs.Read.{recordOf}
 use Rattle.asking.specs.Calls.{preconditionsOf, postconditionsOf, startOf}
 use Rattle.listing.specs.declared.Piece.{Piece}

@@ -1,6 +1,4 @@
 -- The definitions, in reading order.
 pub mod Walk
 pub mod Decoded
-pub mod Asked
 pub mod Tabled
-pub mod Encoded

@@ -24,13 +24,13 @@ use Rattle.refusal.specs.Answer.{andThen}
 use Rattle.records.specs.declared.Header.{Header}
 use Rattle.records.specs.Records.{part, conditions, flags, preCount, postCount, prePart, postPart, markingPart, conditionsOf, eventOf}
 use Rattle.records.proofs.Made.{conditions-made, event-made, marking-made}
 use Rattle.table.specs.Walk.{kindIs, eventsFrom, judgeOf, offsetFrom}
 use Rattle.table.specs.Decoded.{netIf, netOf}
 use Rattle.table.specs.Tabled.{Tabled}
-use Rattle.table.specs.Encoded.{framed, eventPayload, recordsFrom, encode, Agree}
+use Rattle.encoding.specs.Encoded.{framed, eventPayload, recordsFrom, encode, Agree}
 use Rattle.table.proofs.Walk.{judge-starts, events-event, events-last}
 use Rattle.table.proofs.Decoded.{net-judged}
-use Rattle.table.proofs.Standing.{number-stands, part-stands, Frame, frame-stands}
+use Rattle.encoding.proofs.Standing.{number-stands, part-stands, Frame, frame-stands}
 
 -- What is read where the record of event e stands.
 pub record EventStands (n : Net) (e : ℕ) (s : List ℕ) (at : ℕ) (r : List ℕ) : Type 0 where

@@ -5,13 +5,13 @@ use Prim.Native.Nat.{ℕ, _+_}
 use Rattle.words.specs.Words.{words}
 use Rattle.records.specs.Records.{markingPart}
 use Rattle.records.specs.Parts.{placeIn}
-use Rattle.table.specs.Asked.{markingPartOf, markingPlaceOf}
+use Rattle.parts.specs.Asked.{markingPartOf, markingPlaceOf}
 use Rattle.table.proofs.Walk.{accepted}
 use Rattle.table.proofs.Decoded.{start-none, start-read}
-use Rattle.table.proofs.Shown.{shown-none, place-none, shown-at, place-at, marking-room, marking-asked, marking-refused}
+use Rattle.parts.proofs.Shown.{shown-none, place-none, shown-at, place-at, marking-room, marking-asked, marking-refused}
 use borrow.Author.Needs.{needs}
-use Rattle.table.proofs.marking_part.Statement.{statement}
-use Rattle.table.proofs.marking_part.Tie as tie
+use Rattle.parts.proofs.marking_part.Statement.{statement}
+use Rattle.parts.proofs.marking_part.Tie as tie
 
 returns : tie.Need-returns
 unfolding markingPartOf markingPlaceOf

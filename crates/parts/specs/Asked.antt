@@ -7,10 +7,10 @@ use Rattle.refusal.specs.declared.Judged.{Judged}
 use Rattle.refusal.specs.declared.Judged.the-variants.{Fine, Refused}
 use Rattle.refusal.specs.Answer.{need, andThen}
 use Rattle.records.specs.Records.{conditions, preCount, prePart, postPart, markingPart}
-use Rattle.table.specs.declared.Persistence.{Persistence}
-use Rattle.table.specs.declared.Persistence.the-variants as show
+use Rattle.parts.specs.declared.Persistence.{Persistence}
+use Rattle.parts.specs.declared.Persistence.the-variants as show
 use Rattle.table.specs.Walk.{judgeOf, offsetOf}
 use Rattle.table.specs.Decoded.{netOf}
 
 -- Event e: the offset of its record; 1 to 9, then 10 at 0 (01, Refusal numbers).
 unfoldable pub askedOf : List ℕ → ℕ → Judged

@@ -6,8 +6,8 @@ use mathlib.Core.Bool.{Bool, true, false}
 use Rattle.refusal.specs.declared.Judged.{Judged}
 use Rattle.refusal.specs.declared.Judged.the-variants.{Fine, Refused}
 use Rattle.refusal.specs.Answer.{numberOf, placeOf}
 use Rattle.table.specs.Decoded.{netOf}
-use Rattle.table.specs.Asked.{askedConditionOf, persistenceIf, persistenceOf, persistenceNumber, persistencePlace, persistenceValue}
+use Rattle.parts.specs.Asked.{askedConditionOf, persistenceIf, persistenceOf, persistenceNumber, persistencePlace, persistenceValue}
 
 number-if : (j : Judged) (flag : Bool) → persistenceNumber (persistenceIf j flag) ≡ numberOf j
 number-if (Fine at) true = refl

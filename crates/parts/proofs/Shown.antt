@@ -10,10 +10,10 @@ use Rattle.refusal.specs.declared.Judged.the-variants.{Fine, Refused}
 use Rattle.records.specs.Records.{preCount, postCount}
 use Rattle.records.specs.Parts.{placeIn}
 use Rattle.records.proofs.Parts.{place-in}
 use Rattle.table.specs.Walk.{judgeOf, offsetOf}
-use Rattle.table.specs.Asked.{askedOf, askedMarkingOf, shownFor, placeFor}
+use Rattle.parts.specs.Asked.{askedOf, askedMarkingOf, shownFor, placeFor}
 use Rattle.table.proofs.Walk.{accepted}
-use Rattle.table.proofs.Decoded.{asked-fine}
+use Rattle.parts.proofs.Asking.{asked-fine}
 
 -- an asking's answer r, refused
 module _ {x r : Judged} {refusal : Refusal} (asked : r ≡ x) (t : r ≡ Refused refusal) where

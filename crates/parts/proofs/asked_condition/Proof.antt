@@ -3,10 +3,10 @@ use mathlib.Core.Path.{_∙_, sym}
 use borrow.Author.Tests.{lt-ltb, le-ltb}
 use Rattle.refusal.specs.Answer.{need}
 use Rattle.refusal.proofs.Chain.{passed-up}
-use Rattle.table.specs.Asked.{askedConditionOf}
+use Rattle.parts.specs.Asked.{askedConditionOf}
 use borrow.Author.Needs.{needs}
-use Rattle.table.proofs.asked_condition.Statement.{statement}
-use Rattle.table.proofs.asked_condition.Tie as tie
+use Rattle.parts.proofs.asked_condition.Statement.{statement}
+use Rattle.parts.proofs.asked_condition.Tie as tie
 
 returns : tie.Need-returns
 unfolding askedConditionOf

@@ -4,10 +4,10 @@ use borrow.Author.Tests.{lt-ltb, le-ltb}
 use Rattle.refusal.specs.Answer.{need}
 use Rattle.refusal.specs.declared.Judged.the-variants.{Fine}
 use Rattle.refusal.proofs.Chain.{passed-up}
-use Rattle.table.specs.Asked.{askedOf}
+use Rattle.parts.specs.Asked.{askedOf}
 use borrow.Author.Needs.{needs}
-use Rattle.table.proofs.asked.Statement.{statement}
-use Rattle.table.proofs.asked.Tie as tie
+use Rattle.parts.proofs.asked.Statement.{statement}
+use Rattle.parts.proofs.asked.Tie as tie
 
 returns : tie.Need-returns
 unfolding askedOf

@@ -3,8 +3,8 @@ use mathlib.Core.Path.{_∙_, sym}
 use native.Mathlib.Omega.{arith}
 use Rattle.words.proofs.Laws.{words-at, words-past}
 use borrow.Author.Needs.{needs}
-use Rattle.table.proofs.condition_in.Statement.{statement}
-use Rattle.table.proofs.condition_in.Tie as tie
+use Rattle.parts.proofs.condition_in.Statement.{statement}
+use Rattle.parts.proofs.condition_in.Tie as tie
 
 returns : tie.Need-returns
 returns c =

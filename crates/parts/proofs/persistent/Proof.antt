@@ -1,15 +1,15 @@
 -- `table::persistent` meets its contract.
 use Rattle.refusal.specs.declared.Judged.the-variants.{Fine}
 use Rattle.table.specs.Decoded.{netOf}
 use mathlib.Core.Path.{_∙_, sym, ap}
 use Prim.Native.Nat.{ℕ}
 use lib.Dec.{eqb}
 use Rattle.refusal.specs.declared.Judged.{Judged}
-use Rattle.table.specs.Asked.{persistenceIf, persistenceOf}
-use Rattle.table.proofs.Decoded.{flag-read}
+use Rattle.parts.specs.Asked.{persistenceIf, persistenceOf}
+use Rattle.parts.proofs.Asking.{flag-read}
 use borrow.Author.Needs.{needs}
-use Rattle.table.proofs.persistent.Statement.{statement}
-use Rattle.table.proofs.persistent.Tie as tie
+use Rattle.parts.proofs.persistent.Statement.{statement}
+use Rattle.parts.proofs.persistent.Tie as tie
 
 returns : tie.Need-returns
 unfolding persistenceOf

@@ -1,16 +1,16 @@
 -- `table::post_part` meets its contract.
 use Rattle.table.specs.Decoded.{netOf}
 use mathlib.Core.Path.{_∙_, sym, ap, refl}
 use native.Mathlib.Omega.{arith}
 use Prim.Native.Nat.{ℕ, _+_, _*_}
 use Rattle.words.specs.Words.{words}
 use Rattle.records.specs.Records.{preCount, postPart}
-use Rattle.table.specs.Asked.{postPartOf, postPlaceOf}
-use Rattle.table.proofs.Decoded.{list-post, list-none}
-use Rattle.table.proofs.Shown.{shown-none, place-none, shown-at, place-at, asked-room}
+use Rattle.parts.specs.Asked.{postPartOf, postPlaceOf}
+use Rattle.parts.proofs.Asking.{list-post, list-none}
+use Rattle.parts.proofs.Shown.{shown-none, place-none, shown-at, place-at, asked-room}
 use borrow.Author.Needs.{needs}
-use Rattle.table.proofs.post_part.Statement.{statement}
-use Rattle.table.proofs.post_part.Tie as tie
+use Rattle.parts.proofs.post_part.Statement.{statement}
+use Rattle.parts.proofs.post_part.Tie as tie
 
 returns : tie.Need-returns
 unfolding postPartOf postPlaceOf

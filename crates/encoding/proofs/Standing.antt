@@ -10,7 +10,7 @@ use Rattle.words.proofs.Laws.{two-bytes}
 use Rattle.records.specs.declared.Header.the-variants.{Whole}
 use Rattle.records.specs.Records.{part, headerOf}
 use Rattle.records.proofs.Headers.{header-whole}
-use Rattle.table.specs.Encoded.{framed}
+use Rattle.encoding.specs.Encoded.{framed}
 
 -- two bytes that stand at an offset
 module _ (s : List ℕ) (at a b : ℕ) (r : List ℕ) (stands : drop at s ≡ a ∷ b ∷ r) where

@@ -1,7 +1,7 @@
 -- `table::answered` meets its contract.
 use borrow.Author.Needs.{needs}
-use Rattle.table.proofs.answered.Statement.{statement}
-use Rattle.table.proofs.answered.Tie as tie
+use Rattle.parts.proofs.answered.Statement.{statement}
+use Rattle.parts.proofs.answered.Tie as tie
 
 returns-3 : tie.Need-returns-3
 returns-3 c =

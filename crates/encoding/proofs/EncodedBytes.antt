@@ -15,9 +15,9 @@ use Rattle.model.specs.Lent.{bit, bytes}
 use Rattle.model.proofs.Lent.{length-bytes}
 use Rattle.words.specs.Words.{bytesOf}
 use Rattle.words.proofs.Laws.{length-bytesOf}
 use Rattle.table.specs.Tabled.{Tabled}
-use Rattle.table.specs.Encoded.{framed, eventPayload, recordsFrom, encode}
-use Rattle.table.proofs.Encoded.{payload-length, pre-fits, post-fits, start-fits}
+use Rattle.encoding.specs.Encoded.{framed, eventPayload, recordsFrom, encode}
+use Rattle.encoding.proofs.Encoded.{payload-length, pre-fits, post-fits, start-fits}
 
 -- each number of a list is below m
 abbrev Below : ℕ → List ℕ → Type 0
