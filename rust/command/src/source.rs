@@ -56,7 +56,7 @@ pub fn read_text(path: &str) -> Stopped<Source> {
     spelled(path, &given)
 }
 
-/// The table of a file, be it text or records.
+/// The table of a file, be it text or records, which is read once, so that it may be a pipe.
 pub fn read(path: &str) -> Stopped<Source> {
     let bytes = bytes_of(path)?;
     if text::is_text(&bytes) {

@@ -2,8 +2,9 @@
 //! the listing program (DOVETRELLIS_LIST), both run by the words of RATTLE_RUN.
 
 use std::fs;
+use std::io::Write;
 use std::path::Path;
-use std::process::Command;
+use std::process::{Command, Stdio};
 
 use command::lister::Folder;
 use second::generator::{damaged, small_net, Random};
@@ -124,6 +125,26 @@ fn the_example_is_listed() {
         "start 0\nend unfolded 0\n"
     );
     assert!(fine(&["list", "net-e.txt", "second"]).ends_with("\n2 2 4 2\nend unfolded 3,4\n"));
+}
+
+#[test]
+fn a_table_may_come_through_a_pipe() {
+    let net = fs::read(Path::new(TOP).join("examples/net-e.txt")).unwrap();
+    let mut command = Command::new(env!("CARGO_BIN_EXE_dovetrellis"));
+    let mut child = command
+        .args(["judge", "/dev/stdin"])
+        .env("DOVETRELLIS_TOP", TOP)
+        .env_remove("DOVETRELLIS_SCRIPT")
+        .stdin(Stdio::piped())
+        .stdout(Stdio::piped())
+        .spawn()
+        .unwrap();
+    child.stdin.take().unwrap().write_all(&net).unwrap();
+    let out = child.wait_with_output().unwrap().stdout;
+    assert_eq!(
+        String::from_utf8(out).unwrap(),
+        fine(&["judge", "net-e.txt"])
+    );
 }
 
 #[test]
