@@ -11,7 +11,7 @@ pub fn meaning(number: u64) -> &'static str {
     match number {
         1 => "a record is due here, but its header or payload runs past the end of the file",
         2 => "a record of this kind is not allowed here",
-        3 => "the record's length is not right for its kind (1 to 256 conditions, at most 4096 steps of a run)",
+        3 => "the record's length is not right for its kind",
         4 => "a condition's byte is neither 0, ordinary, nor 1, persistent",
         5 => "a list does not ascend, or names a condition that the table does not have",
         6 => "there are over 256 events",
@@ -29,6 +29,35 @@ pub fn meaning(number: u64) -> &'static str {
         18 => "a marking has the wrong length, or a byte above 1",
         19 => "the file is too long (65536 bytes for a table, 8196 for a run)",
         _ => "this number is not in the list of refusals",
+    }
+}
+
+/// What is due instead where a record of the table has the wrong kind (2) or length (3).
+fn due_in_table(number: u64, offset: usize, kind: Option<u8>) -> Option<&'static str> {
+    match (number, kind) {
+        (2, _) if offset == 0 => Some("a table begins with its Conditions, kind 1"),
+        (2, _) => Some("an Event, kind 2, or the Marking, kind 3, is due"),
+        (3, Some(2)) => Some("an event has 4 bytes and 2 for each condition that it counts"),
+        (3, Some(3)) => Some("a marking has 2 bytes for each condition"),
+        (3, _) => Some("there are 1 to 256 conditions"),
+        _ => None,
+    }
+}
+
+/// The same of the record of a run.
+fn due_in_run(number: u64) -> Option<&'static str> {
+    match number {
+        2 => Some("a run is one record of kind 4"),
+        3 => Some("a run has 2 bytes for each step, and at most 4096 steps"),
+        _ => None,
+    }
+}
+
+/// What a refusal's number means, and more about it, if more is known.
+fn meaning_with(number: u64, more: Option<&str>) -> String {
+    match more {
+        Some(more) => format!("{}: {more}", meaning(number)),
+        None => meaning(number).to_string(),
     }
 }
 
@@ -123,8 +152,13 @@ impl Source {
     fn step_told(&self, run: &RunSource, refusal: Refusal) -> String {
         let called = &run.called;
         let step = refusal.place as usize;
-        if !matches!(refusal.number, 10..=12 | 15) {
-            return called.clone();
+        match (refusal.number, run.places.first()) {
+            (10..=12 | 15, _) => {}
+            (1..=9, None) => return format!("byte {} of {called}", refusal.place),
+            (1..=9, Some(first)) => {
+                return format!("{called}, whose steps begin at {first} of {}", self.path)
+            }
+            _ => return called.clone(),
         }
         let told = format!("step {step} of {called}, counted from 0");
         let Some(event) = run.steps.get(step) else {
@@ -159,22 +193,22 @@ impl Source {
 
     /// A refusal of the table, told.
     pub fn told(&self, refusal: Refusal) -> Told {
+        let offset = refusal.place as usize;
+        let (kind, _) = record_at(&self.bytes, offset);
+        let due = due_in_table(refusal.number, offset, kind);
         Told {
             refusal,
-            what: meaning(refusal.number).to_string(),
+            what: meaning_with(refusal.number, due),
             place: self.place_told(refusal),
         }
     }
 
     /// A refusal of a run of this table, told with the condition that stopped it, if that is known.
     pub fn run_told(&self, run: &RunSource, refusal: Refusal, by: Option<String>) -> Told {
-        let meaning = meaning(refusal.number);
+        let more = by.as_deref().or(due_in_run(refusal.number));
         Told {
             refusal,
-            what: match by {
-                Some(by) => format!("{meaning}: {by}"),
-                None => meaning.to_string(),
-            },
+            what: meaning_with(refusal.number, more),
             place: self.step_told(run, refusal),
         }
     }

@@ -407,8 +407,58 @@ fn a_run_that_is_refused_is_not_taken_for_the_table() {
     let net = format!("{TOP}/examples/net-a.txt");
     let (out, err) = refused(folder.path(), &["list", &net, "odd.bin"]);
     assert_eq!(out, "refused 3 at 0\n");
-    assert!(err.ends_with("  where: odd.bin\n"), "{err}");
+    let said = "  what: the record's length is not right for its kind: a run has 2 bytes for each step, and at most 4096 steps\n  \
+        where: byte 0 of odd.bin\n";
+    assert_eq!(err, said);
     let (out, err) = refused(folder.path(), &["list", &net, "cut.bin"]);
     assert_eq!(out, "refused 1 at 0\n");
-    assert!(err.ends_with("  where: cut.bin\n"), "{err}");
+    assert!(err.ends_with("  where: byte 0 of cut.bin\n"), "{err}");
+    folder.write("more.bin", &[0, 0, 4, 0, 0]).unwrap();
+    let (out, err) = refused(folder.path(), &["list", &net, "more.bin"]);
+    assert_eq!(out, "refused 9 at 4\n");
+    assert!(err.ends_with("  where: byte 4 of more.bin\n"), "{err}");
+    folder.write("lifted.bin", &[0, 0, 5, 0]).unwrap();
+    let (out, err) = refused(folder.path(), &["list", &net, "lifted.bin"]);
+    assert_eq!(out, "refused 2 at 0\n");
+    assert!(
+        err.contains(" not allowed here: a run is one record of kind 4\n"),
+        "{err}"
+    );
+    let steps = "x, ".repeat(4097);
+    let text = format!("conditions: a\nx: {{}} -> {{a}}\nstart: {{}}\nrun long: {steps}\n");
+    folder.write("t.txt", text.as_bytes()).unwrap();
+    let (out, err) = refused(folder.path(), &["pack", "t.txt"]);
+    assert!(out.ends_with("\nrefused 3 at 0\n"), "{out}");
+    assert!(
+        err.ends_with("  where: run `long`, whose steps begin at line 4, column 11 of t.txt\n"),
+        "{err}"
+    );
+}
+
+#[test]
+fn what_is_due_in_place_of_a_wrong_record_is_told() {
+    let folder = Folder::new().unwrap();
+    for (bytes, what) in [
+        (
+            &[0, 0, 7, 0][..],
+            "not allowed here: a table begins with its Conditions, kind 1\n",
+        ),
+        (&[0, 0, 1, 0], "its kind: there are 1 to 256 conditions\n"),
+        (
+            &[1, 0, 1, 0, 0, 0, 0, 4, 0],
+            "not allowed here: an Event, kind 2, or the Marking, kind 3, is due\n",
+        ),
+        (
+            &[1, 0, 1, 0, 0, 2, 0, 2, 0, 0, 0],
+            "its kind: an event has 4 bytes and 2 for each condition that it counts\n",
+        ),
+        (
+            &[1, 0, 1, 0, 0, 1, 0, 3, 0, 0],
+            "its kind: a marking has 2 bytes for each condition\n",
+        ),
+    ] {
+        folder.write("t.bin", bytes).unwrap();
+        let (_, err) = refused(folder.path(), &["judge", "t.bin"]);
+        assert!(err.contains(what), "{err}");
+    }
 }
