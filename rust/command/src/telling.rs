@@ -128,10 +128,13 @@ impl Source {
         format!("byte {offset} of {path}, {record}{}", self.why_records())
     }
 
-    /// Why a file without a byte 0, which every table has, was not taken as text.
+    /// Why a file that does not begin as a table does, with a record of kind 1, was not taken as text.
     fn why_records(&self) -> String {
+        if self.bytes.is_empty() {
+            return "; the file is empty".to_string();
+        }
         match text::control_at(&self.bytes) {
-            Some(at) if !self.bytes.contains(&0) => {
+            Some(at) if self.bytes.get(2..4) != Some(&[1, 0]) => {
                 format!("; it is not taken as text, since byte {at} is a control character")
             }
             _ => String::new(),

@@ -391,6 +391,24 @@ fn text_with_a_control_character_is_told() {
         ),
         "{err}"
     );
+    for (bytes, why) in [
+        (&b""[..], "the file is empty"),
+        (
+            b"conditions: a\0\nstart: {}\n",
+            "it is not taken as text, since byte 13 is a control character",
+        ),
+        (
+            b"\xff\xfec\0o\0n\0",
+            "it is not taken as text, since byte 3 is a control character",
+        ),
+    ] {
+        folder.write("u.txt", bytes).unwrap();
+        let (_, err) = refused(folder.path(), &["judge", "u.txt"]);
+        assert!(
+            err.ends_with(&format!("the first record; {why}\n")),
+            "{err}"
+        );
+    }
     let packed = ran_in(folder.path(), &["pack", "t.txt"]);
     let said = "dovetrellis: t.txt: byte 13 is a control character, so this is no text\n";
     assert_eq!(
