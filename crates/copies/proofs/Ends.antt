@@ -3,11 +3,11 @@ use Prim.Native.Nat.{ℕ, _+_, _-_, _≤_, _<_}
 use native.Mathlib.Omega.{arith}
 use native.Mathlib.Decide.{decLe}
 use native.Mathlib.Nat.{lt-of-not-le}
-use mathlib.Core.Path.{_≡_, refl, sym, _∙_, ap, subst}
-use mathlib.Core.Bool.{Bool, false, _&&_}
+use mathlib.Core.Path.{_≡_, refl, sym, _∙_, ap}
+use mathlib.Core.Bool.{Bool, false}
 use mathlib.Core.Option.{some}
 use mathlib.Core.List.{List, _++_}
-use lib.Dec.{T, eqb, ltb}
+use lib.Dec.{T, ltb}
 use lib.ListN.{length, getD, getElem?, drop, length-map, length-append, length-drop, List·getD-append}
 use lib.Seq.{ext-getD, getD-append-add, getD-drop}
 use borrow.Author.Tests.{lt-ltb}
@@ -16,17 +16,17 @@ use Rattle.lists.proofs.Bools.{T-of}
 use Rattle.lists.proofs.Places.{at-some, at-getD}
 use Rattle.lists.proofs.Positions.{at-map}
 use Rattle.model.specs.Net.{Net, Sound, Marking, begin}
-use Rattle.model.specs.Lent.{bit, bytes, marking}
+use Rattle.model.specs.Lent.{bit, bytes}
 use Rattle.model.specs.Runs.{runs, end, atStart, byEvent}
 use Rattle.model.specs.Unfolding.{UnfoldedCondition, ordinary, copy, unfoldedConditions, begins, basic}
 use Rattle.model.specs.Across.{readBack}
 use Rattle.model.specs.Demands.{holdsAfter}
-use Rattle.model.proofs.Lent.{bytes-at, bytes-are, bit-one}
+use Rattle.model.proofs.Lent.{bytes-are}
 use Rattle.model.proofs.Unfolded.{begins-at}
 use Rattle.model.proofs.Demands.{unfolded-marking}
 use Rattle.copies.specs.Copies.{holdsBy, copiesOf}
 use Rattle.copies.specs.Writing.{Right, markedBelow}
-use Rattle.copies.proofs.Where.{ordinary-below, copy-marker, event-marking}
+use Rattle.copies.proofs.Where.{copy-marker, event-marking}
 
 -- ---- the bytes one by one
 
@@ -80,20 +80,6 @@ copies-are n m seen u h =
     bytes-are (copiesOf n m seen) (basic n .conditions) u (copies-length n m seen)
     (λ k l. let x = there n k l in copies-at n m seen k (x .0) (x .1) ∙ ap bit (sym (h k (x .0) (x .1))))
 
--- Of the table's marking only what its conditions tell matters, and of the events that have occurred only the net's.
-pub copies-same : (n : Net) (m q : Marking) (seen past : ℕ → Bool) → ((b : ℕ) → b < n .conditions → m b ≡ q b) → ((e : ℕ) → e < n .events → seen e ≡ past e)
-    → copiesOf n m seen ≡ copiesOf n q past
-unfolding holdsBy
-copies-same n m q seen past f g =
-    ext-getD 0 (copiesOf n m seen) (copiesOf n q past) (copies-length n m seen ∙ sym (copies-length n q past))
-    (λ k l. let x = there n k (subst (λ (c : ℕ). k < c) (copies-length n m seen) l) in
-    copies-at n m seen k (x .0) (x .1) ∙ ap bit (go k (x .0) (x .1)) ∙ sym (copies-at n q past k (x .0) (x .1)))
-  where
-    go : (k : ℕ) (p : UnfoldedCondition) → getElem? (unfoldedConditions n) k ≡ some p → holdsBy n m seen p ≡ holdsBy n q past p
-    go k (ordinary b) h = f b (ordinary-below n k b h)
-    go k (copy b atStart v) h = refl
-    go k (copy b (byEvent e) v) h = ap (λ (t : Bool). t && mem b (n .postconditions e)) (g e (event-marking n k b e (copy-marker n k b (byEvent e) v h) .0))
-
 -- At the start of the table the bytes are the start of the unfolding.
 pub copies-begin : (n : Net) → copiesOf n (begin n) (λ e. false) ≡ bytes (basic n .conditions) (begin (basic n))
 unfolding holdsBy begins begin
@@ -116,17 +102,3 @@ copies-end n d w r t q =
     go (ordinary b) = refl
     go (copy b atStart v) = refl
     go (copy b (byEvent e) v) = refl
-
--- ---- the same from the bytes that a call keeps along a run
-
-byte-says : (l : List ℕ) (m : Marking) → l ≡ bytes 256 m → (b : ℕ) → b < 256 → marking l b ≡ m b
-unfolding marking
-byte-says l m e b h = ap (λ (x : List ℕ). eqb (getD x b 0) 1) e ∙ ap (λ (x : ℕ). eqb x 1) (bytes-at 256 m b h) ∙ bit-one (m b)
-
-pub copies-run : (n : Net) → Sound n → n .conditions ≤ 256 → n .events ≤ 256 → (w r : List ℕ) → T (runs (basic n) (begin (basic n)) w) → readBack n w ≡ r
-    → (state seen : List ℕ) → state ≡ bytes 256 (end n (begin n) r) → seen ≡ bytes 256 (λ e. mem e r)
-    → copiesOf n (marking state) (marking seen) ≡ bytes (basic n .conditions) (end (basic n) (begin (basic n)) w)
-copies-run n d c f w r t q state seen a b =
-    copies-same n (marking state) (end n (begin n) r) (marking seen) (λ e. mem e r)
-    (λ i h. byte-says state (end n (begin n) r) a i (omega arith)) (λ i h. byte-says seen (λ e. mem e r) b i (omega arith))
-    ∙ copies-end n d w r t q

@@ -53,10 +53,6 @@ sum-same f g (suc k) h = ap₂ {C = ℕ} (λ x y. x + y) (sum-same f g k (λ i l
 pub sum-next : (f : ℕ → ℕ) (k x : ℕ) → x ≡ f k → sum f k + x ≡ sum f (k + 1)
 sum-next f k x e = rw (e, add-one)
 
-pub sum-most : (f : ℕ → ℕ) (k m : ℕ) → ((i : ℕ) → f i ≤ m) → sum f k ≤ m * k
-sum-most f zero m h = omega arith
-sum-most f (suc k) m h = omega (arith, sum-most f k m h, h k)
-
 -- a term is no more than the sum
 pub sum-part : (f : ℕ → ℕ) (k i : ℕ) → i < k → sum f i + f i ≤ sum f k
 sum-part f zero i h = absurd (omega arith)

@@ -20,10 +20,6 @@ sets-last [] out b at = rw add-zero
 sets-last (a ∷ x) out b at =
     rw (add-suc, ← suc-add, set-comm out (suc at + length x) at b a (λ e. omega arith)) (sets-last x (set out at a) b (suc at))
 
--- One byte is put where there is room, and left out where there is none.
-pub byte-in : (out : List ℕ) (at b : ℕ) → Put out at (b ∷ []) (at + 1) (set out at b)
-byte-in out at b = record { told = refl; stored = refl }
-
 pub byte-out : (out : List ℕ) (at b : ℕ) → length out ≤ at → Put out at (b ∷ []) (at + 1) out
 byte-out out at b h = record { told = refl; stored = sym (set-out out at b h) }
 

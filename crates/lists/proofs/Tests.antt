@@ -32,12 +32,6 @@ all-of f (x ∷ xs) h =
 
 -- ---- any
 
-pub any-out : (t : ℕ → Bool) (r : List ℕ) → T (any t r) → (e : ℕ) × T (mem e r) × T (t e)
-any-out t [] h = absurd h
-any-out t (x ∷ r) h =
-    or-cases (t x) (any t r) h (λ p. (x, or-left (eqb x x) (mem x r) (eqb-refl x), p))
-    (λ p. let i = any-out t r p in (i .0, or-right (eqb (i .0) x) (mem (i .0) r) (i .1), i .2))
-
 pub any-in : (t : ℕ → Bool) (r : List ℕ) (e : ℕ) → T (mem e r) → T (t e) → T (any t r)
 any-in t [] e i h = absurd i
 any-in t (x ∷ r) e i h =

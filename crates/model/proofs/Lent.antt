@@ -1,9 +1,9 @@
 -- Lent bytes and markings: written and read again they are themselves, and no rule makes a condition hold that is not there.
 use mathlib.Core.Path.{_≡_, refl, sym, _∙_, ap, subst, fun-ext}
 use mathlib.Core.Bool.{Bool, true, false}
-use mathlib.Core.List.{List, [], _∷_, map}
+use mathlib.Core.List.{List, map}
 use Prim.Native.Nat.{ℕ, zero, suc, _+_, _≤_, _<_}
-use lib.Dec.{T, eqb, ltb→lt}
+use lib.Dec.{T, eqb}
 use lib.ListN.{length, getD, length-map, List·getD-eq-default}
 use lib.Seq.{ext-getD}
 use native.Mathlib.Decide.{decLe}
@@ -12,10 +12,8 @@ use native.Mathlib.Omega.{arith}
 use Rattle.lists.specs.Lists.{mem, count}
 use Rattle.lists.proofs.Bools.{is-false}
 use Rattle.lists.proofs.Members.{length-count}
-use Rattle.model.specs.Net.{Net, Sound, Marking, begin, fire}
+use Rattle.model.specs.Net.{Net, Sound, Marking, begin}
 use Rattle.model.specs.Lent.{bit, bytes, marking}
-use Rattle.model.specs.Runs.{runs, end}
-use Rattle.model.proofs.Firing.{runs-first, runs-rest, can-event, fire-none}
 
 -- nothing holds past the conditions
 abbrev pub Tidy : ℕ → Marking → Type 0
@@ -73,12 +71,3 @@ tidy-mem c l h b le = is-false (mem b l) (λ t. let x = h b t in omega arith)
 pub tidy-begin : (n : Net) → Sound n → Tidy (n .conditions) (begin n)
 unfolding begin
 tidy-begin n s = tidy-mem (n .conditions) (n .start) (s .start-in)
-
-pub tidy-fire : (n : Net) → Sound n → (m : Marking) (e : ℕ) → e < n .events → Tidy (n .conditions) m → Tidy (n .conditions) (fire n m e)
-tidy-fire n s m e l t b h = fire-none n m e b (tidy-mem (n .conditions) (n .postconditions e) (λ b x. s .post-in e b l x) b h) (t b h)
-
-pub tidy-end : (n : Net) → Sound n → (m : Marking) (r : List ℕ) → T (runs n m r) → Tidy (n .conditions) m → Tidy (n .conditions) (end n m r)
-unfolding end
-tidy-end n s m [] x t = t
-tidy-end n s m (e ∷ r) x t =
-    tidy-end n s (fire n m e) r (runs-rest n m e r x) (tidy-fire n s m e (ltb→lt e (n .events) (can-event n m e (runs-first n m e r x))) t)

@@ -1,7 +1,7 @@
 -- Places put together come to the number of the colour that the markers make.
 use Prim.Native.Nat.{ℕ, _+_, _*_, _-_, _≤_, _<_}
 use native.Mathlib.Omega.{arith}
-use native.Mathlib.Nat.{add-mul, mul-assoc, mul-pos, mul-le-mul, zero-mul, le-mul-of-pos-right}
+use native.Mathlib.Nat.{add-mul, mul-assoc, mul-le-mul, zero-mul, le-mul-of-pos-right}
 use mathlib.Core.Path.{_≡_, refl, ap, _∙_}
 use mathlib.Core.Bool.{Bool, true, false, cond}
 use mathlib.Core.List.{List, [], _∷_, map}
@@ -12,7 +12,6 @@ use Rattle.lists.proofs.Bools.{is-true, or-left, or-right}
 use Rattle.lists.proofs.Members.{mem-in, in-mem, keep-out}
 use Rattle.words.specs.Words.{wordAt, words}
 use Rattle.words.proofs.Laws.{words-next, words-end}
-use Rattle.model.specs.Net.{Net}
 use Rattle.model.specs.Runs.{Marker}
 use Rattle.model.specs.Unfolding.{sameMarker, markers, reads}
 use Rattle.model.specs.Numbering.{ways, radix, size}
@@ -36,10 +35,6 @@ use Rattle.places.specs.Places.{Marking, Placed}
 use Rattle.places.specs.Numbers.{joined, joinedAll, Joining, Numbering, Numbered, Settled}
 
 -- ---- the number of a list
-
-some-ways : (n : Net) (bs : List ℕ) → 0 < ways (map (markers n) bs)
-some-ways n [] = omega arith
-some-ways n (b ∷ bs) = mul-pos (some-marker n b) (some-ways n bs)
 
 shift : (a r p w q : ℕ) → (a * r + p) * w + q ≡ a * (r * w) + (p * w + q)
 shift a r p w q = omega (arith, add-mul (a * r) p w, mul-assoc a r w)

@@ -9,7 +9,7 @@ use native.Mathlib.Decide.{decLe}
 use lib.ListN.{getElem?, length}
 use native.Mathlib.Nat.{add-zero, suc-add, add-suc}
 use native.Mathlib.Omega.{arith}
-use borrow.Author.Tests.{le-leb, lt-leb, lt-ltb, le-ltb}
+use borrow.Author.Tests.{le-leb, lt-leb, lt-ltb}
 use Rattle.lists.proofs.Bools.{T-of, is-false, iff, and-left, and-right}
 use Rattle.lists.specs.Lists.{places-from, count, sum, spread}
 
@@ -46,13 +46,6 @@ inside-in a p k h l = rw (le-leb a k h, lt-ltb k (a + p) l)
 
 pub inside-low : (a p k : ℕ) → k < a → inside a p k ≡ false
 inside-low a p k h = rw (lt-leb a k h)
-
-pub inside-high : (a p k : ℕ) → a + p ≤ k → inside a p k ≡ false
-inside-high a p k h = go (leb a k)
-  where
-    go : (b : Bool) → (b && ltb k (a + p)) ≡ false
-    go true = le-ltb k (a + p) h
-    go false = refl
 
 pub inside-out : (a p k : ℕ) → T (inside a p k) → (a ≤ k) × (k < a + p)
 inside-out a p k t = (leb→le a k (and-left (leb a k) (ltb k (a + p)) t), ltb→lt k (a + p) (and-right (leb a k) (ltb k (a + p)) t))

@@ -1,7 +1,7 @@
 -- An unfolded event's number: where its event and markers are, and where there is none.
-use Prim.Native.Nat.{ℕ, suc, _+_, _%_, _≤_, _<_}
+use Prim.Native.Nat.{ℕ, suc, _+_, _≤_, _<_}
 use native.Mathlib.Omega.{arith}
-use mathlib.Core.Path.{_≡_, refl, sym, ap, subst}
+use mathlib.Core.Path.{_≡_, refl, sym, subst}
 use mathlib.Core.List.{List, [], _∷_, map, List·Memᴰ·head, List·Memᴰ·tail}
 use mathlib.Core.Bool.{Bool, true, false, cond}
 use lib.Dec.{T, ltb, ltb→lt, lt→ltb}
@@ -13,7 +13,7 @@ use Rattle.lists.proofs.Places.{at-lt, at-getD}
 use Rattle.model.specs.Net.{Net}
 use Rattle.model.specs.Runs.{Marker}
 use Rattle.model.specs.Unfolding.{sameMarker, markers, UnfoldedEvent, reads, unfoldedEvents, origin, basic}
-use Rattle.model.specs.Numbering.{sameEvent, number, ways, radix, digits, size, eventCount, counted}
+use Rattle.model.specs.Numbering.{sameEvent, number, radix, digits, size, eventCount, counted}
 use Rattle.model.proofs.Unfolded.{sameMarker-eq, Each, choices-each, event-in, colour-out}
 use Rattle.model.proofs.Numbers.{sameEvent-eq, number-at}
 use Rattle.model.proofs.Counts.{marker-at, count-events, event-from, number-counted}
@@ -106,7 +106,3 @@ module _ (n : Net) where
     pub origin-low : ltb (sum (size n) e + r) (basic n .events) ≡ true
     unfolding basic
     origin-low = lt-ltb (sum (size n) e + r) (length (unfoldedEvents n)) (at-lt (unfoldedEvents n) (sum (size n) e + r) (event-from n e r h l))
-
-pub digits-length : (mss : List (List Marker)) (r : ℕ) → length (digits mss r) ≡ length mss
-digits-length [] r = refl
-digits-length (ms ∷ mss) r = ap suc (digits-length mss (r % ways mss))
