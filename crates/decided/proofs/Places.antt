@@ -24,10 +24,10 @@ use Rattle.table.specs.Decoded.{netOf}
 use Rattle.tally.specs.Having.{having}
 use Rattle.layout.specs.Colours.{flagged}
 use Rattle.layout.proofs.Products.{words-short}
-use Rattle.unfolding.specs.declared.Colour.{Colour}
-use Rattle.unfolding.specs.Markers.{noColour, push}
-use Rattle.unfolding.specs.Numbers.{Picking}
-use Rattle.unfolding.proofs.Picks.{after, split, first-inside, reads-more, reads-past, choices-past, digit-in, picking-more, picking-past, digits-more}
+use Rattle.events.specs.declared.Colour.{Colour}
+use Rattle.events.specs.Colours.{noColour, push}
+use Rattle.events.specs.Numbers.{Picking}
+use Rattle.events.proofs.Picks.{after, split, first-inside, reads-more, reads-past, choices-past, digit-in, picking-more, picking-past, digits-more}
 use Rattle.decided.specs.Kept.{markerAt, keptMarker, Kept, Keeping, Choosing, Chosen}
 
 -- ---- one marker kept

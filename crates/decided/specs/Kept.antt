@@ -15,8 +15,9 @@ use Rattle.table.specs.Decoded.{netOf}
 use Rattle.table.specs.Walk.{offsetOf}
 use Rattle.layout.specs.Colours.{flagged}
 use Rattle.tally.specs.Having.{Tally}
-use Rattle.unfolding.specs.Markers.{noColour}
-use Rattle.unfolding.specs.Numbers.{choicesOf, Picking}
+use Rattle.events.specs.Colours.{noColour}
+use Rattle.unfolding.specs.Numbers.{choicesOf}
+use Rattle.events.specs.Numbers.{Picking}
 
 -- ---- the kept places
 

@@ -18,7 +18,7 @@ ghost use Rattle.replay.specs.Calls.{replayOf, endOf};
 ghost use Rattle.exchange.specs.Calls.{exchangeOf, exchangedOf};
 ghost use Rattle.runs.specs.Runs.{runKind, liftedKind, readAnswer, runInto, writeAnswer, recordInto};
 ghost use Rattle.layout.specs.Unfolds.{unfoldingOf};
-ghost use Rattle.unfolding.specs.Answers.{originOf, numberOf};
+ghost use Rattle.events.specs.Answers.{originOf, numberOf};
 ghost use Rattle.conditions.specs.Origins.{conditionOriginOf};
 ghost use Rattle.starting.specs.Calls.{unfoldedStartOf, unfoldedStartedOf};
 ghost use Rattle.listed.specs.Calls.{listingOf, listedOf};
@@ -160,7 +160,7 @@ pub extern "C" fn dovetrellis_event_origin(
     ensures behind { λ _. ⌜ now (event .exit) ≡ given (markersOf (originOf (now (table .entry)) unfolded) (length (now (markers .entry)))) ((originOf (now (table .entry)) unfolded) .event .0) (now (event .entry)) ⌝ }
     ensures many { λ _. ⌜ now (count .exit) ≡ valueOr (markersOf (originOf (now (table .entry)) unfolded) (length (now (markers .entry)))) (now (count .entry)) ⌝ }
 {
-    let origin = unfolding::event_origin(table, UnfoldedEvent(unfolded));
+    let origin = events::event_origin(table, UnfoldedEvent(unfolded));
     let judged = outward::put_markers(origin, markers);
     let behind = origin.event;
     outward::put_event(judged, behind, event);
@@ -180,7 +180,7 @@ pub extern "C" fn dovetrellis_event_number(
     ensures number { λ _. ⌜ now (unfolded .exit) ≡ valueOr (numberOf (now (table .entry)) event (colourFor (now (markers .entry)))) (now (unfolded .entry)) ⌝ }
 {
     let colour = outward::colour_of(markers);
-    let judged = unfolding::event_number(table, TableEvent(event), colour);
+    let judged = events::event_number(table, TableEvent(event), colour);
     outward::put_number(judged, unfolded);
     outward::told(judged)
 }

@@ -10,9 +10,10 @@ use Rattle.lists.specs.Lists.{count}
 use Rattle.lists.proofs.Positions.{count-split}
 use Rattle.model.specs.Runs.{Marker}
 use Rattle.refusal.specs.declared.Marker.the-variants.{Start}
-use Rattle.unfolding.specs.declared.Pick.{Pick}
-use Rattle.unfolding.specs.declared.Colour.{Colour}
-use Rattle.unfolding.specs.Markers.{shown, meant, noColour, push, pushAll, markerAt, colourOf}
+use Rattle.events.specs.declared.Pick.{Pick}
+use Rattle.events.specs.declared.Colour.{Colour}
+use Rattle.unfolding.specs.Markers.{shown, meant}
+use Rattle.events.specs.Colours.{noColour, push, pushAll, markerAt, colourOf}
 use Rattle.inverse.proofs.Conditions.{meant-shown}
 
 map-append : {A B : Type 0} (f : A → B) (xs ys : List A) → map f (xs ++ ys) ≡ map f xs ++ map f ys

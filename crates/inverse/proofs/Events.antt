@@ -25,11 +25,11 @@ use Rattle.table.proofs.Sound.{tabled}
 use Rattle.layout.specs.Unfolds.{unfoldingOf}
 use Rattle.layout.proofs.Limits.{unfolds-judged}
 use Rattle.unfolding.proofs.Numbered.{index-found}
-use Rattle.unfolding.specs.declared.Colour.{Colour}
-use Rattle.unfolding.specs.declared.EventOrigin.{EventOrigin}
-use Rattle.unfolding.specs.Markers.{pushAll, noColour, markerAt, colourOf}
-use Rattle.unfolding.specs.Answers.{originIf, originJudged, originOf, numberOf}
-use Rattle.unfolding.proofs.Inverse.{number-origin, origin-number}
+use Rattle.events.specs.declared.Colour.{Colour}
+use Rattle.events.specs.declared.EventOrigin.{EventOrigin}
+use Rattle.events.specs.Colours.{pushAll, noColour, markerAt, colourOf}
+use Rattle.events.specs.Answers.{originIf, originJudged, originOf, numberOf}
+use Rattle.events.proofs.Inverse.{number-origin, origin-number}
 use Rattle.inverse.proofs.Prefix.{prefix-passed, fine-same}
 use Rattle.inverse.proofs.Colours.{colour-told}
 

@@ -18,10 +18,10 @@ fn is_number(r: Judged, j: usize) -> bool {
 
 // Whether an unfolded event's number comes back from its event and markers.
 fn event_back(table: &[u8], j: u16) -> bool {
-    let o = unfolding::event_origin(table, UnfoldedEvent(j));
+    let o = events::event_origin(table, UnfoldedEvent(j));
     let e = o.event;
     let c = o.colour;
-    is_number(unfolding::event_number(table, e, c), j as usize)
+    is_number(events::event_number(table, e, c), j as usize)
 }
 
 // Whether an unfolded condition's number comes back from its condition, or from that with its marker and user.
@@ -77,7 +77,7 @@ fn say_back(table: &[u8], events: bool, skip: u8, count: usize) {
 fn last(table: &[u8], count: usize) {
     if 0 < count {
         if count < 65537 {
-            let o = unfolding::event_origin(table, UnfoldedEvent((count - 1) as u16));
+            let o = events::event_origin(table, UnfoldedEvent((count - 1) as u16));
             let e = o.event;
             io::write_all(STDOUT_FILENO, b", event ");
             io::print_decimal(STDOUT_FILENO, e.0 as u64);

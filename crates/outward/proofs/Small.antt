@@ -18,9 +18,9 @@ use Rattle.refusal.specs.Answer.{need, andThen, valueOf}
 use Rattle.table.specs.Walk.{judgeOf}
 use Rattle.table.specs.Decoded.{netOf}
 use Rattle.layout.specs.Unfolds.{refusedOr, unfoldingOf}
-use Rattle.unfolding.specs.declared.Colour.{Colour}
-use Rattle.unfolding.specs.Markers.{colourOf}
-use Rattle.unfolding.specs.Answers.{numberOf}
+use Rattle.events.specs.declared.Colour.{Colour}
+use Rattle.events.specs.Colours.{colourOf}
+use Rattle.events.specs.Answers.{numberOf}
 use Rattle.unfolding.proofs.Numbered.{events-basic}
 use Rattle.conditions.specs.Answers.{numbered}
 use Rattle.outward.specs.Words.{conditionFor}

@@ -10,8 +10,8 @@ use lib.Seq.{drop-cons, sets, sets-eq}
 use Rattle.lists.specs.Lists.{count}
 use Rattle.lists.proofs.Members.{length-count}
 use Rattle.refusal.specs.declared.Marker.the-variants.{Start}
-use Rattle.unfolding.specs.declared.Colour.{Colour}
-use Rattle.unfolding.specs.Markers.{markerAt, colourOf}
+use Rattle.events.specs.declared.Colour.{Colour}
+use Rattle.events.specs.Colours.{markerAt, colourOf}
 use Rattle.outward.specs.Words.{startWord, wordOf, markerOf, picksFor, wordsOf}
 
 module _ {A : Type 0} where

@@ -10,10 +10,10 @@ use Rattle.refusal.specs.declared.Marker as declared
 use Rattle.refusal.specs.declared.Marker.the-variants.{Start, ByEvent}
 use Rattle.refusal.specs.declared.Judged.{Judged}
 use Rattle.refusal.specs.Answer.{andThen, fitting, written}
-use Rattle.unfolding.specs.declared.Colour.{Colour}
-use Rattle.unfolding.specs.declared.Pick.{Pick}
-use Rattle.unfolding.specs.declared.EventOrigin.{EventOrigin}
-use Rattle.unfolding.specs.Markers.{colourOf}
+use Rattle.events.specs.declared.Colour.{Colour}
+use Rattle.events.specs.declared.Pick.{Pick}
+use Rattle.events.specs.declared.EventOrigin.{EventOrigin}
+use Rattle.events.specs.Colours.{colourOf}
 use Rattle.conditions.specs.Answers.{ordinaryNumber, copyNumber}
 
 -- The number that stands for the start.

@@ -1,17 +1,18 @@
 // What C sees: an answer by value, single values written only where the call worked, and markers as numbers.
 use conditions::ConditionOrigin;
+use events::Colour;
+use events::EventOrigin;
+use events::Pick;
 use refusal::Judged;
 use refusal::Marker;
 use refusal::TableCondition;
 use refusal::TableEvent;
-use unfolding::Colour;
-use unfolding::EventOrigin;
-use unfolding::Pick;
 ghost use mathlib.Core.Path.{_≡_};
 ghost use Prim.Native.Nat.{_<_};
 ghost use lib.ListN.{length, getD};
 ghost use Rattle.refusal.specs.Answer.{fitting, valueOf, written};
-ghost use Rattle.unfolding.specs.Markers.{meant, markerAt};
+ghost use Rattle.unfolding.specs.Markers.{meant};
+ghost use Rattle.events.specs.Colours.{markerAt};
 ghost use Rattle.outward.specs.Told.{answerOf, valueOr, given};
 ghost use Rattle.outward.specs.Origins.{originAnswer, conditionOr, copyOr, markerOr, userOr};
 ghost use Rattle.outward.specs.Words.{startWord, wordOf, markerOf, colourFor, wordsOf, markersOf, markersInto, conditionFor};

@@ -26,8 +26,7 @@ use Rattle.layout.specs.Laid.{Low, Marked, Sums}
 use Rattle.layout.proofs.Counts.{tally-low, marks-at}
 use Rattle.unfolding.specs.Numbers.{Within, choicesOf, allMark}
 use Rattle.unfolding.proofs.Places.{some-marker}
-use Rattle.unfolding.proofs.Numbered.{marks-each}
-use Rattle.unfolding.proofs.Weights.{radix-below}
+use Rattle.unfolding.proofs.Numbered.{marks-each, radix-below}
 use Rattle.unfolding.proofs.Owners.{before-few}
 use Rattle.firsts.specs.declared.Slot.{Slot}
 use Rattle.firsts.specs.Firsts.{firstAt}

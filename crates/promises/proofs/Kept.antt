@@ -20,8 +20,8 @@ use Rattle.game.specs.Calls.{leaves, fireOf, firedOf}
 use Rattle.replay.specs.Calls.{replayOf, endOf, replayFromOf, endFromOf}
 use Rattle.exchange.specs.Calls.{exchangeOf, exchangedOf}
 use Rattle.runs.specs.Runs.{runKind, liftedKind, readAnswer, writeAnswer, runInto, recordInto}
-use Rattle.unfolding.specs.Answers as unfolded
-use Rattle.unfolding.specs.Answers.{originJudged, originIf, originOf}
+use Rattle.events.specs.Answers as unfolded
+use Rattle.events.specs.Answers.{originJudged, originIf, originOf}
 use Rattle.conditions.specs.Answers.{numbered}
 use Rattle.conditions.specs.Origins.{conditionAt, conditionJudged, toldIf, conditionOriginOf, originNumber}
 use Rattle.listed.specs.Calls.{listingOf, listedOf}
@@ -51,8 +51,8 @@ use Rattle.runs.proofs.write_lifted.Reads as write-lifted
 use Rattle.unfolding.proofs.condition_count.Reads as unfolded-condition-count
 use Rattle.unfolding.proofs.event_count.Reads as unfolded-event-count
 use Rattle.parts.proofs.persistent.Reads as persistent
-use Rattle.unfolding.proofs.event_origin.Reads as event-origin
-use Rattle.unfolding.proofs.event_number.Reads as event-number
+use Rattle.events.proofs.event_origin.Reads as event-origin
+use Rattle.events.proofs.event_number.Reads as event-number
 use Rattle.conditions.proofs.ordinary_number.Reads as ordinary-number
 use Rattle.conditions.proofs.copy_number.Reads as copy-number
 use Rattle.conditions.proofs.condition_origin.Reads as condition-origin

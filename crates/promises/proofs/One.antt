@@ -33,8 +33,8 @@ use Rattle.runs.proofs.write_run.Reads as write-run
 use Rattle.runs.proofs.write_lifted.Reads as write-lifted
 use Rattle.unfolding.proofs.condition_count.Reads as unfolded-condition-count
 use Rattle.unfolding.proofs.event_count.Reads as unfolded-event-count
-use Rattle.unfolding.proofs.event_origin.Reads as event-origin
-use Rattle.unfolding.proofs.event_number.Reads as event-number
+use Rattle.events.proofs.event_origin.Reads as event-origin
+use Rattle.events.proofs.event_number.Reads as event-number
 use Rattle.conditions.proofs.ordinary_number.Reads as ordinary-number
 use Rattle.conditions.proofs.copy_number.Reads as copy-number
 use Rattle.conditions.proofs.condition_origin.Reads as condition-origin

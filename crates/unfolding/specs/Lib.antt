@@ -1,4 +1,3 @@
 -- The definitions, in reading order.
 pub mod Markers
 pub mod Numbers
-pub mod Answers

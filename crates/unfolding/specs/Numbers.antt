@@ -1,23 +1,20 @@
--- What the walks over a table tell: which event a number belongs to, and what a list of markers comes to.
+-- What the walks over a table tell: which event a number belongs to, and which lists of markers are its colours.
 use Prim.Native.Nat.{ℕ, _+_, _≤_, _<_}
 use mathlib.Core.Path.{_≡_}
-use mathlib.Core.Bool.{Bool, true, false, _&&_, cond}
+use mathlib.Core.Bool.{Bool, true, false, _&&_}
 use mathlib.Core.List.{List, [], _∷_, map}
-use lib.Dec.{T, ltb}
+use lib.Dec.{ltb}
 use lib.ListN.{length}
-use Rattle.lists.specs.Lists.{mem, index, keep, sum}
+use Rattle.lists.specs.Lists.{index, keep, sum}
 use Rattle.model.specs.Runs.{Marker}
 use Rattle.model.specs.Unfolding.{sameMarker, markers}
-use Rattle.model.specs.Numbering.{ways, radix, size, eventCount}
+use Rattle.model.specs.Numbering.{size, eventCount}
 use Rattle.model.specs.Across.{mostUnfolded}
 use Rattle.table.specs.Walk.{offsetOf}
 use Rattle.table.specs.Decoded.{netOf}
 use Rattle.layout.specs.Laid.{Marked}
-use Rattle.unfolding.specs.declared.Colour.{Colour}
 use Rattle.unfolding.specs.declared.Found.{Found}
 use Rattle.unfolding.specs.declared.Found.the-variants.{At, Past}
-use Rattle.unfolding.specs.declared.Weighed.{Weighed}
-use Rattle.unfolding.specs.declared.Weighed.the-variants.{Is, NoSuch}
 
 -- A table's markers are counted, and its unfolded events are within the limit (01, Unfolding).
 pub record Within (s ms : List ℕ) (events : ℕ) : Type 0 where
@@ -42,28 +39,9 @@ Belongs s j Past = eventCount (netOf s) ≤ j
 abbrev pub choicesOf : List ℕ → List ℕ → List (List Marker)
 choicesOf s l = map (markers (netOf s)) (keep (netOf s .persistent) l)
 
--- What must hold to take a number apart into markers put behind those of a colour.
-pub record Picking (s ms : List ℕ) (events : ℕ) (c : Colour) (l : List ℕ) (weight rest : ℕ) : Type 0 where
-  pub within : Within s ms events
-  pub inside : (b : ℕ) → T (mem b l) → b < 256
-  pub whole : weight ≡ ways (choicesOf s l)
-  pub limit : weight ≤ mostUnfolded
-  pub below : rest < weight
-  pub room : c .count + length (keep (netOf s .persistent) l) ≤ 16
-
 -- Each list of markers has the marker beside it, and there is one for each.
 abbrev pub allMark : List (List Marker) → List Marker → Bool
 allMark [] [] = true
 allMark [] (m ∷ c) = false
 allMark (ms ∷ mss) [] = false
 allMark (ms ∷ mss) (m ∷ c) = ltb (index (sameMarker m) ms) (length ms) && allMark mss c
-
--- What a list of markers comes to: the number of colours and the place among them, or that it is no colour (01, Unfolding).
-abbrev pub weighed : List (List Marker) → List Marker → Weighed
-weighed mss c = cond (allMark mss c) (Is (ways mss) (radix mss c)) NoSuch
-
--- What must hold to put markers together into a number.
-pub record Weighing (s ms : List ℕ) (events : ℕ) (l : List ℕ) : Type 0 where
-  pub within : Within s ms events
-  pub inside : (b : ℕ) → T (mem b l) → b < 256
-  pub limit : ways (choicesOf s l) ≤ mostUnfolded

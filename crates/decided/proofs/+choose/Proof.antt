@@ -3,8 +3,8 @@ use native.Mathlib.Omega.{arith}
 use mathlib.Core.Path.{sym, _∙_}
 use lib.ListN.{length}
 use borrow.Author.Needs.{needs}
-use Rattle.unfolding.specs.Markers.{noColour}
-use Rattle.unfolding.proofs.Picks.{part-length, mark-some, below-some}
+use Rattle.events.specs.Colours.{noColour}
+use Rattle.events.proofs.Picks.{part-length, mark-some, below-some}
 use Rattle.decided.proofs.Places.{chosen-none, keeping, choosing-more, chosen-more, choosing-past, chosen-past}
 use Prim.Native.Nat.{ℕ, _<_}
 use borrow.Fn.Kinds.{In}

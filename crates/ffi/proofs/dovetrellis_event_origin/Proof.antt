@@ -2,8 +2,8 @@
 use mathlib.Core.Path.{ap, _∙_}
 use lib.ListN.{length}
 use Rattle.refusal.specs.declared.Judged.{Judged}
-use Rattle.unfolding.specs.declared.EventOrigin.{EventOrigin}
-use Rattle.unfolding.specs.Answers.{originOf}
+use Rattle.events.specs.declared.EventOrigin.{EventOrigin}
+use Rattle.events.specs.Answers.{originOf}
 use Rattle.outward.specs.Words.{markersOf, markersInto}
 use Rattle.outward.specs.Told.{answerOf, valueOr, given}
 use borrow.Author.Needs.{needs}

@@ -3,7 +3,7 @@ use native.Mathlib.Omega.{arith}
 use mathlib.Core.Path.{_≡_, sym, ap}
 use Rattle.unfolding.specs.Markers.{meant}
 use Rattle.refusal.specs.declared.Marker.the-variants.{Start}
-use Rattle.unfolding.specs.declared.Pick.{Pick}
+use Rattle.events.specs.declared.Pick.{Pick}
 use lib.ListN.{length, List·getD-eq-default, length-map}
 use borrow.Author.Needs.{needs}
 use Rattle.outward.proofs.marker_at.Statement.{statement}

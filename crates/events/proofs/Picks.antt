@@ -18,10 +18,11 @@ use Rattle.table.specs.Decoded.{netOf}
 use Rattle.layout.specs.Colours.{flagged}
 use Rattle.layout.proofs.Products.{part-two, words-first, words-short}
 use Rattle.layout.proofs.Counts.{marks-at}
-use Rattle.unfolding.specs.declared.Colour.{Colour}
-use Rattle.unfolding.specs.Markers.{push, pushAll}
-use Rattle.unfolding.specs.Numbers.{Within, choicesOf, Picking}
+use Rattle.events.specs.declared.Colour.{Colour}
+use Rattle.events.specs.Colours.{push, pushAll}
+use Rattle.unfolding.specs.Numbers.{Within, choicesOf}
+use Rattle.events.specs.Numbers.{Picking}
 use Rattle.unfolding.proofs.Places.{some-marker}
 
 -- the numbers of a list after its first, as a lent part has them
 abbrev pub after : List ℕ → List ℕ

@@ -1,27 +1,27 @@
--- `unfolding::picked` meets its contract.
+-- `events::picked` meets its contract.
 use Prim.Native.Nat.{_/_, ℕ, _<_}
 use Rattle.model.specs.Numbering.{digits}
-use Rattle.unfolding.proofs.Picks.{part-length, picked-none, mark-some, below-some, digit-in, picking-more, room-for-one, digits-more, picking-past, choices-past}
+use Rattle.events.proofs.Picks.{part-length, picked-none, mark-some, below-some, digit-in, picking-more, room-for-one, digits-more, picking-past, choices-past}
 use mathlib.Core.Path.{_∙_, sym, ap}
 use mathlib.Core.List.{List}
 use native.Mathlib.Nat.{div-le-self}
 use Rattle.model.specs.Runs.{Marker}
-use Rattle.unfolding.specs.Markers.{pushAll}
+use Rattle.events.specs.Colours.{pushAll}
 use lib.ListN.{length}
 use borrow.Author.Needs.{needs}
 use native.Mathlib.Omega.{arith}
 use borrow.Fn.Kinds.{In}
 use borrow.Fn.PlainCycle.{Measures, is, falls, and}
-use Rattle.unfolding.proofs.picked.Reads as picked
-use Rattle.unfolding.proofs.picked.Kinds as picked-kinds
-use Rattle.unfolding.proofs.+picked.Lts-picked as picked-lts
+use Rattle.events.proofs.picked.Reads as picked
+use Rattle.events.proofs.picked.Kinds as picked-kinds
+use Rattle.events.proofs.+picked.Lts-picked as picked-lts
 use Rattle.layout.proofs.is_persistent.Reads as is-persistent-reads
 use Rattle.tally.proofs.number.Reads as number-reads
 use Rattle.unfolding.proofs.marker_at.Reads as marker-at-reads
-use Rattle.unfolding.proofs.pushed.Reads as pushed-reads
+use Rattle.events.proofs.pushed.Reads as pushed-reads
 use Rattle.words.proofs.word.Reads as word-reads
-use Rattle.unfolding.proofs.+picked.{statement}
-use Rattle.unfolding.proofs.+picked.Tie.{close}
+use Rattle.events.proofs.+picked.{statement}
+use Rattle.events.proofs.+picked.Tie.{close}
 
 abbrev μ-picked : Measures 1 picked-kinds.ps ℕ
 μ-picked κs a = length (a .1 .1 .1 .1 .0 .now)

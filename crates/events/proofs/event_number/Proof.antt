@@ -1,17 +1,17 @@
--- `unfolding::event_number` meets its contract.
-use Rattle.unfolding.proofs.Calls.{number-fits, choices-are, few-choices, weighing-first, number-no-event, number-many, number-no-colour, number-found}
+-- `events::event_number` meets its contract.
+use Rattle.events.proofs.Calls.{number-fits, choices-are, few-choices, weighing-first, number-no-event, number-many, number-no-colour, number-found}
 use native.Mathlib.Omega.{arith}
 use mathlib.Core.Path.{_∙_, sym}
 use Rattle.refusal.specs.declared.Judged.the-variants.{Fine}
 use Rattle.refusal.specs.Answer.{need}
 use Rattle.table.specs.Decoded.{netOf}
 use Rattle.layout.proofs.Limits.{unfolds-passed, unfolds-on}
-use Rattle.unfolding.specs.Markers.{colourOf}
-use Rattle.unfolding.specs.Answers.{numberOf}
+use Rattle.events.specs.Colours.{colourOf}
+use Rattle.events.specs.Answers.{numberOf}
 use Rattle.unfolding.proofs.Owners.{within-laid}
 use borrow.Author.Needs.{needs}
-use Rattle.unfolding.proofs.event_number.Statement.{statement}
-use Rattle.unfolding.proofs.event_number.Tie as tie
+use Rattle.events.proofs.event_number.Statement.{statement}
+use Rattle.events.proofs.event_number.Tie as tie
 
 returns : tie.Need-returns
 unfolding numberOf

@@ -1,10 +1,10 @@
--- `unfolding::event_origin` meets its contract.
+-- `events::event_origin` meets its contract.
 use lib.Dec.{ltb}
 use lib.ListN.{length}
 use Rattle.model.specs.Numbering.{digits}
 use Rattle.words.specs.Words.{words}
 use Rattle.unfolding.specs.Numbers.{choicesOf, Belongs}
-use Rattle.unfolding.specs.Markers.{pushAll, noColour}
+use Rattle.events.specs.Colours.{pushAll, noColour}
 use native.Mathlib.Omega.{arith}
 use mathlib.Core.Path.{_≡_, _∙_, subst}
 use Rattle.refusal.specs.declared.Judged.the-variants.{Fine}
@@ -12,13 +12,13 @@ use Rattle.refusal.specs.Answer.{need}
 use Rattle.model.specs.Unfolding.{basic, origin}
 use Rattle.table.specs.Decoded.{netOf}
 use Rattle.layout.proofs.Limits.{unfolds-passed, unfolds-on}
-use Rattle.unfolding.specs.Answers.{originJudged}
+use Rattle.events.specs.Answers.{originJudged}
 use Rattle.unfolding.specs.declared.Found.{Found}
 use Rattle.unfolding.proofs.Owners.{within-laid}
-use Rattle.unfolding.proofs.Calls.{choices-are, picking-first, origin-refused, origin-past, origin-found}
+use Rattle.events.proofs.Calls.{choices-are, picking-first, origin-refused, origin-past, origin-found}
 use borrow.Author.Needs.{needs}
-use Rattle.unfolding.proofs.event_origin.Statement.{statement}
-use Rattle.unfolding.proofs.event_origin.Tie as tie
+use Rattle.events.proofs.event_origin.Statement.{statement}
+use Rattle.events.proofs.event_origin.Tie as tie
 
 returns : tie.Need-returns
 unfolding originJudged

@@ -10,9 +10,9 @@ use Rattle.refusal.specs.declared.Judged.the-variants.{Fine, Refused}
 use Rattle.refusal.specs.Answer.{need}
 use Rattle.table.specs.Decoded.{netOf}
 use Rattle.layout.specs.Unfolds.{unfoldingOf}
-use Rattle.unfolding.specs.declared.Colour.{Colour}
-use Rattle.unfolding.specs.declared.EventOrigin.{EventOrigin}
-use Rattle.unfolding.specs.Markers.{noColour, pushAll, colourOf}
+use Rattle.events.specs.declared.Colour.{Colour}
+use Rattle.events.specs.declared.EventOrigin.{EventOrigin}
+use Rattle.events.specs.Colours.{noColour, pushAll, colourOf}
 
 -- An unfolded event behind a number: how many markers its colour has, or 10 past the last (01, Runs across).
 unfoldable pub originJudged : List ℕ → ℕ → Judged

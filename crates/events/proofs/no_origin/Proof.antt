@@ -1,7 +1,7 @@
--- `unfolding::no_origin` meets its contract.
+-- `events::no_origin` meets its contract.
 use borrow.Author.Needs.{needs}
-use Rattle.unfolding.proofs.no_origin.Statement.{statement}
-use Rattle.unfolding.proofs.no_origin.Tie as tie
+use Rattle.events.proofs.no_origin.Statement.{statement}
+use Rattle.events.proofs.no_origin.Tie as tie
 
 returns : tie.Need-returns
 returns c =

@@ -5,11 +5,10 @@ use native.Mathlib.Nat.{mul-comm, suc-mul, mul-le-mul-right, le-mul-of-pos-right
 use native.Mathlib.Numerals.{add-one}
 use mathlib.Core.Path.{_≡_, refl, sym}
 use mathlib.Core.List.{List, [], _∷_}
-use mathlib.Core.Bool.{Bool, true, false, _&&_, and-false, cond}
-use lib.Dec.{ltb}
+use mathlib.Core.Bool.{Bool, true, false, and-false, cond}
 use lib.ListN.{length, getD}
-use borrow.Author.Tests.{lt-ltb, le-ltb, ltb-true}
-use Rattle.lists.specs.Lists.{index}
+use borrow.Author.Tests.{lt-ltb, le-ltb}
+use Rattle.lists.specs.Lists.{index, count}
 use Rattle.words.specs.Words.{wordAt, words}
 use Rattle.model.specs.Runs.{Marker}
 use Rattle.model.specs.Unfolding.{sameMarker, markers}
@@ -19,18 +18,16 @@ use Rattle.table.specs.Decoded.{netOf}
 use Rattle.layout.specs.Colours.{flagged}
 use Rattle.layout.proofs.Products.{words-short}
 use Rattle.layout.proofs.Counts.{marks-at}
-use Rattle.unfolding.specs.declared.Colour.{Colour}
-use Rattle.unfolding.specs.declared.Weighed.the-variants.{Is, NoSuch}
-use Rattle.unfolding.specs.Markers.{markerAt, colourFrom}
-use Rattle.unfolding.specs.Numbers.{choicesOf, allMark, weighed, Weighing}
+use Rattle.events.specs.declared.Colour.{Colour}
+use Rattle.events.specs.declared.Weighed.the-variants.{Is, NoSuch}
+use Rattle.events.specs.Colours.{markerAt, colourFrom}
+use Rattle.unfolding.specs.Numbers.{choicesOf, allMark}
+use Rattle.events.specs.Numbers.{weighed, Weighing}
 use Rattle.unfolding.proofs.Places.{some-marker}
-use Rattle.unfolding.proofs.Picks.{after, first-inside, after-inside, choices-more, choices-past}
+use Rattle.unfolding.proofs.Numbered.{radix-below}
+use Rattle.events.proofs.Picks.{after, first-inside, after-inside, choices-more, choices-past}
 
 -- ---- a list of markers weighed
-
-both : (a b : Bool) → (a && b) ≡ true → (a ≡ true) × (b ≡ true)
-both true b e = (refl, e)
-both false b e = absurd (let z : _≡_ {A = ℕ} 0 1 = cc in omega arith)
 
 told : (t : Bool) (p q w k : ℕ) → cond t (Is p q) NoSuch ≡ Is w k → (t ≡ true) × (w ≡ p) × (k ≡ q)
 told true p q w k e = (refl, cc, cc)
@@ -51,16 +48,6 @@ weighed-told mss c w k e = let t = told (allMark mss c) (ways mss) (radix mss c)
 
 pub weighed-untold : (mss : List (List Marker)) (c : List Marker) → weighed mss c ≡ NoSuch → allMark mss c ≡ false
 weighed-untold mss c e = untold (allMark mss c) (ways mss) (radix mss c) e
-
--- a place among the colours is below their number
-pub radix-below : (mss : List (List Marker)) (c : List Marker) → allMark mss c ≡ true → radix mss c < ways mss
-radix-below [] [] t = omega arith
-radix-below [] (m ∷ c) t = absurd (let z : _≡_ {A = ℕ} 0 1 = cc in omega arith)
-radix-below (ms ∷ mss) [] t = absurd (let z : _≡_ {A = ℕ} 0 1 = cc in omega arith)
-radix-below (ms ∷ mss) (m ∷ c) t =
-    let b = both (ltb (index (sameMarker m) ms) (length ms)) (allMark mss c) t in
-    let low = ltb-true (index (sameMarker m) ms) (length ms) (b .0) in
-    omega (arith, radix-below mss c (b .1), suc-mul (index (sameMarker m) ms) (ways mss), mul-le-mul-right {m = suc (index (sameMarker m) ms)} {n = length ms} (ways mss) low)
 
 module _ (ms : List Marker) (mss : List (List Marker)) (m : Marker) (c : List Marker) where
   pub weighed-no : weighed mss c ≡ NoSuch → weighed (ms ∷ mss) (m ∷ c) ≡ NoSuch

@@ -1,0 +1,5 @@
+pub mod Picks
+pub mod Weights
+pub mod Numbered
+pub mod Calls
+pub mod Inverse
