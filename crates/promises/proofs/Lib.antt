@@ -3,3 +3,5 @@ pub mod Game
 pub mod Across
 pub mod Kept
 pub mod One
+pub mod OneOutward
+pub mod OneInner

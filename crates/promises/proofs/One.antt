@@ -9,6 +9,10 @@ use Rattle.refusal.specs.declared.Judged.{Judged}
 use Rattle.refusal.specs.Answer.{written}
 use Rattle.runs.specs.Runs.{runOf}
 use Rattle.listing.specs.Calls.{textOf}
+use Rattle.refusal.proofs.refused.Reads as refused
+use Rattle.refusal.proofs.number_of.Reads as number-of
+use Rattle.refusal.proofs.place_of.Reads as place-of
+use Rattle.refusal.proofs.value_of.Reads as value-of
 use Rattle.table.proofs.judge.Reads as judge
 use Rattle.table.proofs.condition_count.Reads as condition-count
 use Rattle.table.proofs.event_count.Reads as event-count
@@ -55,12 +59,26 @@ use Rattle.listing.proofs.write.Reads as write-piece
 use Rattle.listing.proofs.read_files.Reads as read-files
 
 -- two parts of a table that lie and read the same
-same-part : {r q s : RefT (List ℕ)} {place : ℕ} {contents : List ℕ} → Part r s place contents → Part q s place contents → (ptr r .0 ≡ ptr q .0) × (ptr r .1 ≡ ptr q .1) × (now r ≡ now q)
+pub same-part : {r q s : RefT (List ℕ)} {place : ℕ} {contents : List ℕ} → Part r s place contents → Part q s place contents → (ptr r .0 ≡ ptr q .0) × (ptr r .1 ≡ ptr q .1) × (now r ≡ now q)
 same-part h g = (h .within ∙ sym (g .within), h .begins ∙ sym (g .begins), h .reads ∙ sym (g .reads))
 
 -- where what is left is told by the answer
 same-late : (r q : Judged) (new old after past : List ℕ) → r ≡ q → after ≡ written r new old → past ≡ written q new old → (r ≡ q) × (after ≡ past)
 same-late r q new old after past e f g = (e, f ∙ ap (λ (z : Judged). written z new old) e ∙ sym g)
+
+-- ---- answers
+
+pub refused-one : (κs : _) (a : _) (r q : _) (x y : _) → refused.Learnt κs a r x → refused.Learnt κs a q y → r ≡ q
+refused-one κs a r q x y h g = h ∙ sym g
+
+pub number-of-one : (κs : _) (a : _) (r q : _) (x y : _) → number-of.Learnt κs a r x → number-of.Learnt κs a q y → r ≡ q
+number-of-one κs a r q x y h g = h ∙ sym g
+
+pub place-of-one : (κs : _) (a : _) (r q : _) (x y : _) → place-of.Learnt κs a r x → place-of.Learnt κs a q y → r ≡ q
+place-of-one κs a r q x y h g = h ∙ sym g
+
+pub value-of-one : (κs : _) (a : _) (r q : _) (x y : _) → value-of.Learnt κs a r x → value-of.Learnt κs a q y → r ≡ q
+value-of-one κs a r q x y h g = h ∙ sym g
 
 -- ---- a table asked
 

@@ -1,0 +1,228 @@
+-- One answer only, for the public functions that the calls are made of: two answers of one that both meet its contract are equal, in
+-- the result and in the lent output, which stands here as the memory at exit.
+use mathlib.Core.Path.{_≡_, refl, sym, ap, ap₂, _∙_}
+use mathlib.Core.Bool.{Bool}
+use mathlib.Core.List.{List, [], _∷_, _++_}
+use Prim.Native.Nat.{ℕ, suc, _≤_, _<_}
+use native.Mathlib.Omega.{arith}
+use native.Mathlib.Decide.{decLe}
+use lib.ListN.{length, getD, take, drop}
+use denote.Ref.{now, ptr}
+use Rattle.lists.specs.Lists.{sum}
+use Rattle.model.specs.Net.{Net}
+use Rattle.model.specs.Numbering.{size, eventCount}
+use Rattle.refusal.specs.declared.Judged.{Judged}
+use Rattle.table.specs.Walk.{offsetOf}
+use Rattle.table.specs.Decoded.{netOf}
+use Rattle.game.specs.Calls.{leaves}
+use Rattle.tally.specs.Having.{Tally}
+use Rattle.layout.proofs.Counts.{sum-part}
+use Rattle.unfolding.specs.declared.Found.{Found}
+use Rattle.unfolding.specs.declared.Found.the-variants.{At, Past}
+use Rattle.unfolding.specs.Numbers.{Owner, Belongs}
+use Rattle.promises.proofs.One.{same-part}
+use Rattle.words.proofs.byte.Reads as byte
+use Rattle.words.proofs.word.Reads as word
+use Rattle.words.proofs.has.Reads as has
+use Rattle.words.proofs.ascends.Reads as ascends
+use Rattle.words.proofs.all_bits.Reads as all-bits
+use Rattle.words.proofs.count_in.Reads as count-in
+use Rattle.records.proofs.shown.Reads as shown
+use Rattle.records.proofs.header_at.Reads as header-at
+use Rattle.records.proofs.conditions_record.Reads as conditions-record
+use Rattle.records.proofs.event_record.Reads as event-record
+use Rattle.records.proofs.marking_record.Reads as marking-record
+use Rattle.records.proofs.pre_at.Reads as pre-at
+use Rattle.records.proofs.post_at.Reads as post-at
+use Rattle.records.proofs.marking_at.Reads as marking-at
+use Rattle.table.proofs.is_event.Reads as is-event
+use Rattle.table.proofs.offset.Reads as offset
+use Rattle.game.proofs.first_above.Reads as first-above
+use Rattle.game.proofs.first_failing.Reads as first-failing
+use Rattle.game.proofs.set_all.Reads as set-all
+use Rattle.game.proofs.step_at.Reads as step-at
+use Rattle.game.proofs.answered.Reads as answered
+use Rattle.game.proofs.judge_lent.Reads as judge-lent
+use Rattle.replay.proofs.start.Reads as played-start
+use Rattle.replay.proofs.step_event.Reads as step-event
+use Rattle.replay.proofs.copy_front.Reads as copy-front
+use Rattle.replay.proofs.write_end.Reads as write-end
+use Rattle.tally.proofs.number.Reads as count-at
+use Rattle.tally.proofs.raise.Reads as raised
+use Rattle.tally.proofs.tally.Reads as tallied
+use Rattle.tally.proofs.nth.Reads as nth-of
+use Rattle.tally.proofs.place.Reads as place-among
+use Rattle.layout.proofs.is_persistent.Reads as is-persistent
+use Rattle.layout.proofs.colours.Reads as colours
+use Rattle.unfolding.proofs.marker_at.Reads as marker-at
+use Rattle.unfolding.proofs.marker_place.Reads as marker-place
+use Rattle.unfolding.proofs.owner.Reads as owner
+use Rattle.copies.proofs.write_copies.Reads as write-copies
+use Rattle.decided.proofs.decide.Reads as decide
+use Rattle.walking.proofs.test.Reads as ranges-test
+use Rattle.walking.proofs.set_ranges.Reads as set-ranges
+
+-- two lists of the same length that read the same at each place
+same-list : (l k : List ℕ) → length l ≡ length k → ((b : ℕ) → b < length l → getD l b 0 ≡ getD k b 0) → l ≡ k
+same-list [] [] e h = refl
+same-list [] (y ∷ k) e h = absurd (omega arith)
+same-list (x ∷ l) [] e h = absurd (omega arith)
+same-list (x ∷ l) (y ∷ k) e h = ap₂ {C = List ℕ} (λ z w. z ∷ w) (h 0 (omega arith)) (same-list l k (omega arith) (λ b g. h (suc b) (omega arith)))
+
+same-tally : (n : Net) (post : Bool) (first upto : ℕ) (l k : List ℕ) → Tally n post first upto l → Tally n post first upto k → l ≡ k
+same-tally n post first upto l k h g = same-list l k (h .size ∙ sym (g .size)) (λ b low. let c : b < 256 = omega (arith, low, h .size) in h .at b c ∙ sym (g .at b c))
+
+-- no number belongs to an event and to a later one
+never-later : (s : List ℕ) (j e at rest weight d by left wide : ℕ) → Owner s j e at rest weight → Owner s j d by left wide → e < d → ⊥
+never-later s j e at rest weight d by left wide h g l = omega (arith, sum-part (size (netOf s)) d e l, h .left, h .whole, h .below, g .left)
+
+same-owner : (s : List ℕ) (j : ℕ) (r q : Found) → Belongs s j r → Belongs s j q → r ≡ q
+unfolding eventCount
+same-owner s j Past Past h g = refl
+same-owner s j (At e at rest weight) Past h g = absurd (omega (arith, sum-part (size (netOf s)) (netOf s .events) e (h .event), h .left, h .whole, h .below, g))
+same-owner s j Past (At e at rest weight) h g = absurd (omega (arith, sum-part (size (netOf s)) (netOf s .events) e (g .event), g .left, g .whole, g .below, h))
+same-owner s j (At e at rest weight) (At d by left wide) h g =
+    let z : e ≡ d = go (decLe e d) (decLe d e) (never-later s j e at rest weight d by left wide h g) (never-later s j d by left wide e at rest weight g h) in
+    let place : at ≡ by = h .offset ∙ ap (offsetOf s) z ∙ sym (g .offset) in
+    let whole : weight ≡ wide = h .whole ∙ ap (size (netOf s)) z ∙ sym (g .whole) in
+    let over : rest ≡ left = omega (arith, h .left, g .left, ap (sum (size (netOf s))) z) in
+    rw (z, place, over, whole)
+  where
+    go : {e d : ℕ} → Dec (e ≤ d) → Dec (d ≤ e) → (e < d → ⊥) → (d < e → ⊥) → e ≡ d
+    go (yes a) (yes b) f g = omega arith
+    go (yes a) (no b) f g = absurd (f (omega arith))
+    go (no a) c f g = absurd (g (omega arith))
+
+-- ---- bytes and numbers
+
+pub byte-one : (κs : _) (a : _) (r q : _) (x y : _) → byte.Learnt κs a r x → byte.Learnt κs a q y → r ≡ q
+byte-one κs a r q x y h g = h ∙ sym g
+
+pub word-one : (κs : _) (a : _) (r q : _) (x y : _) → word.Learnt κs a r x → word.Learnt κs a q y → r ≡ q
+word-one κs a r q x y h g = h ∙ sym g
+
+pub has-one : (κs : _) (a : _) (r q : _) (x y : _) → has.Learnt κs a r x → has.Learnt κs a q y → r ≡ q
+has-one κs a r q x y h g = h ∙ sym g
+
+pub ascends-one : (κs : _) (a : _) (r q : _) (x y : _) → ascends.Learnt κs a r x → ascends.Learnt κs a q y → r ≡ q
+ascends-one κs a r q x y h g = h ∙ sym g
+
+pub all-bits-one : (κs : _) (a : _) (r q : _) (x y : _) → all-bits.Learnt κs a r x → all-bits.Learnt κs a q y → r ≡ q
+all-bits-one κs a r q x y h g = h ∙ sym g
+
+pub count-in-one : (κs : _) (a : _) (r q : _) (x y : _) → count-in.Learnt κs a r x → count-in.Learnt κs a q y → r ≡ q
+count-in-one κs a r q x y h g = h ∙ sym g
+
+-- ---- records
+
+pub shown-one : (κs : _) (a : _) (r q : _) (x y : _) → shown.Learnt κs a r x → shown.Learnt κs a q y → (ptr r .0 ≡ ptr q .0) × (ptr r .1 ≡ ptr q .1) × (now r ≡ now q)
+shown-one κs a r q x y h g = same-part h g
+
+pub header-at-one : (κs : _) (a : _) (r q : _) (x y : _) → header-at.Learnt κs a r x → header-at.Learnt κs a q y → r ≡ q
+header-at-one κs a r q x y h g = h ∙ sym g
+
+pub conditions-record-one : (κs : _) (a : _) (r q : _) (x y : _) → conditions-record.Learnt κs a r x → conditions-record.Learnt κs a q y → r ≡ q
+conditions-record-one κs a r q x y h g = h ∙ sym g
+
+pub event-record-one : (κs : _) (a : _) (r q : _) (x y : _) → event-record.Learnt κs a r x → event-record.Learnt κs a q y → r ≡ q
+event-record-one κs a r q x y h g = h ∙ sym g
+
+pub marking-record-one : (κs : _) (a : _) (r q : _) (x y : _) → marking-record.Learnt κs a r x → marking-record.Learnt κs a q y → r ≡ q
+marking-record-one κs a r q x y h g = h ∙ sym g
+
+pub pre-at-one : (κs : _) (a : _) (r q : _) (x y : _) → pre-at.Learnt κs a r x → pre-at.Learnt κs a q y → (ptr r .0 ≡ ptr q .0) × (ptr r .1 ≡ ptr q .1) × (now r ≡ now q)
+pre-at-one κs a r q x y h g = same-part h g
+
+pub post-at-one : (κs : _) (a : _) (r q : _) (x y : _) → post-at.Learnt κs a r x → post-at.Learnt κs a q y → (ptr r .0 ≡ ptr q .0) × (ptr r .1 ≡ ptr q .1) × (now r ≡ now q)
+post-at-one κs a r q x y h g = same-part h g
+
+pub marking-at-one : (κs : _) (a : _) (r q : _) (x y : _) → marking-at.Learnt κs a r x → marking-at.Learnt κs a q y → (ptr r .0 ≡ ptr q .0) × (ptr r .1 ≡ ptr q .1) × (now r ≡ now q)
+marking-at-one κs a r q x y h g = same-part h g
+
+pub is-event-one : (κs : _) (a : _) (r q : _) (x y : _) → is-event.Learnt κs a r x → is-event.Learnt κs a q y → r ≡ q
+is-event-one κs a r q x y h g = h ∙ sym g
+
+pub offset-one : (κs : _) (a : _) (r q : _) (x y : _) → offset.Learnt κs a r x → offset.Learnt κs a q y → r ≡ q
+offset-one κs a r q x y h g = h ∙ sym g
+
+-- ---- one step of the game
+
+pub first-above-one : (κs : _) (a : _) (r q : _) (x y : _) → first-above.Learnt κs a r x → first-above.Learnt κs a q y → r ≡ q
+first-above-one κs a r q x y h g = h ∙ sym g
+
+pub first-failing-one : (κs : _) (a : _) (r q : _) (x y : _) → first-failing.Learnt κs a r x → first-failing.Learnt κs a q y → r ≡ q
+first-failing-one κs a r q x y h g = h ∙ sym g
+
+pub set-all-one : (κs : _) (a : _) (r q : _) (x y : _) → set-all.Learnt κs a r x → set-all.Learnt κs a q y → now (x .1 .1 .1 .0) ≡ now (y .1 .1 .1 .0)
+set-all-one κs a r q x y h g = h ∙ sym g
+
+pub step-at-one : (κs : _) (a : _) (r q : _) (x y : _) → step-at.Learnt κs a r x → step-at.Learnt κs a q y → (r ≡ q) × (now (x .1 .1 .0) ≡ now (y .1 .1 .0))
+step-at-one κs a r q x y h g = (h .0 ∙ sym (g .0), h .1 ∙ sym (g .1))
+
+pub answered-one : (κs : _) (a : _) (r q : _) (x y : _) → answered.Learnt κs a r x → answered.Learnt κs a q y → r ≡ q
+answered-one κs a r q x y h g = h ∙ sym g
+
+pub judge-lent-one : (κs : _) (a : _) (r q : _) (x y : _) → judge-lent.Learnt κs a r x → judge-lent.Learnt κs a q y → r ≡ q
+judge-lent-one κs a r q x y h g = h ∙ sym g
+
+-- ---- runs
+
+pub played-start-one : (κs : _) (a : _) (r q : _) (x y : _) → played-start.Learnt κs a r x → played-start.Learnt κs a q y → now (x .1 .1 .0) ≡ now (y .1 .1 .0)
+played-start-one κs a r q x y h g = h ∙ sym g
+
+pub step-event-one : (κs : _) (a : _) (r q : _) (x y : _) → step-event.Learnt κs a r x → step-event.Learnt κs a q y → (r ≡ q) × (now (x .1 .1 .1 .1 .0) ≡ now (y .1 .1 .1 .1 .0))
+step-event-one κs a r q x y h g = (h .0 ∙ sym (g .0), h .1 ∙ sym (g .1))
+
+pub copy-front-one : (κs : _) (a : _) (r q : _) (x y : _) → copy-front.Learnt κs a r x → copy-front.Learnt κs a q y → now (x .1 .1 .0) ≡ now (y .1 .1 .0)
+copy-front-one κs a r q x y h g = h ∙ sym g
+
+pub write-end-one : (κs : _) (a : _) (r q : _) (x y : _) → write-end.Learnt κs a r x → write-end.Learnt κs a q y → (r ≡ q) × (now (x .1 .1 .0) ≡ now (y .1 .1 .0))
+write-end-one κs a r q x y h g =
+    let e : r ≡ q = h .0 ∙ sym (g .0) in
+    (e, h .1 ∙ ap (λ (z : Judged). leaves z (take (a .1 .0) (now (a .0)) ++ drop (a .1 .0) (now (a .1 .1 .0))) (now (a .1 .1 .0))) e ∙ sym (g .1))
+
+-- ---- counts and places
+
+pub count-at-one : (κs : _) (a : _) (r q : _) (x y : _) → count-at.Learnt κs a r x → count-at.Learnt κs a q y → r ≡ q
+count-at-one κs a r q x y h g = h ∙ sym g
+
+pub raised-one : (κs : _) (a : _) (r q : _) (x y : _) → raised.Learnt κs a r x → raised.Learnt κs a q y → now (x .0) ≡ now (y .0)
+raised-one κs a r q x y h g = h ∙ sym g
+
+pub tallied-one : (κs : _) (a : _) (r q : _) (x y : _) → tallied.Learnt κs a r x → tallied.Learnt κs a q y → now (x .1 .1 .1 .1 .0) ≡ now (y .1 .1 .1 .1 .0)
+tallied-one κs a r q x y h g = same-tally (netOf (now (a .0))) (a .1 .1 .0) (a .1 .1 .1 .0) (a .1 .0) (now (x .1 .1 .1 .1 .0)) (now (y .1 .1 .1 .1 .0)) h g
+
+pub nth-of-one : (κs : _) (a : _) (r q : _) (x y : _) → nth-of.Learnt κs a r x → nth-of.Learnt κs a q y → r ≡ q
+nth-of-one κs a r q x y h g = h ∙ sym g
+
+pub place-among-one : (κs : _) (a : _) (r q : _) (x y : _) → place-among.Learnt κs a r x → place-among.Learnt κs a q y → r ≡ q
+place-among-one κs a r q x y h g = h ∙ sym g
+
+pub is-persistent-one : (κs : _) (a : _) (r q : _) (x y : _) → is-persistent.Learnt κs a r x → is-persistent.Learnt κs a q y → r ≡ q
+is-persistent-one κs a r q x y h g = h ∙ sym g
+
+pub colours-one : (κs : _) (a : _) (r q : _) (x y : _) → colours.Learnt κs a r x → colours.Learnt κs a q y → r ≡ q
+colours-one κs a r q x y h g = h ∙ sym g
+
+-- ---- the unfolding
+
+pub marker-at-one : (κs : _) (a : _) (r q : _) (x y : _) → marker-at.Learnt κs a r x → marker-at.Learnt κs a q y → r ≡ q
+marker-at-one κs a r q x y h g = h ∙ sym g
+
+pub marker-place-one : (κs : _) (a : _) (r q : _) (x y : _) → marker-place.Learnt κs a r x → marker-place.Learnt κs a q y → r ≡ q
+marker-place-one κs a r q x y h g = h ∙ sym g
+
+pub owner-one : (κs : _) (a : _) (r q : _) (x y : _) → owner.Learnt κs a r x → owner.Learnt κs a q y → r ≡ q
+owner-one κs a r q x y h g = same-owner (now (a .0)) (a .1 .1 .1 .0) r q h g
+
+pub write-copies-one : (κs : _) (a : _) (r q : _) (x y : _) → write-copies.Learnt κs a r x → write-copies.Learnt κs a q y → now (x .1 .1 .1 .1 .1 .1 .1 .0) ≡ now (y .1 .1 .1 .1 .1 .1 .1 .0)
+write-copies-one κs a r q x y h g = h ∙ sym g
+
+pub decide-one : (κs : _) (a : _) (r q : _) (x y : _) → decide.Learnt κs a r x → decide.Learnt κs a q y → r ≡ q
+decide-one κs a r q x y h g = h ∙ sym g
+
+pub ranges-test-one : (κs : _) (a : _) (r q : _) (x y : _) → ranges-test.Learnt κs a r x → ranges-test.Learnt κs a q y → r ≡ q
+ranges-test-one κs a r q x y h g = h ∙ sym g
+
+pub set-ranges-one : (κs : _) (a : _) (r q : _) (x y : _) → set-ranges.Learnt κs a r x → set-ranges.Learnt κs a q y → now (x .1 .1 .1 .1 .0) ≡ now (y .1 .1 .1 .1 .0)
+set-ranges-one κs a r q x y h g = h ∙ sym g
