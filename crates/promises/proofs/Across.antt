@@ -1,5 +1,5 @@
--- Demands 2 and 3 for the calls: what lift wrote, project takes back; what project wrote, replay accepts; 15 exactly when; and the
--- exchange, lifts included.
+-- Demands 2 and 3 for the calls: what lift wrote, project takes back; what project wrote, replay accepts; what project takes; 15 exactly
+-- when; and the exchange, lifts included.
 use mathlib.Core.Path.{_≡_, refl, sym, ap, _∙_, subst}
 use mathlib.Core.Logic.{_↔_}
 use mathlib.Core.Bool.{Bool, true, false}
@@ -17,10 +17,10 @@ use Rattle.model.specs.Unfolding.{origin, basic}
 use Rattle.model.specs.Lent.{bytes}
 use Rattle.model.specs.Exchange.{exchanged}
 use Rattle.model.specs.Across.{Refusal, Answer, run, refusal, stopped, other, unless, stuck, mostSteps, tooLong, unfoldingRefused, lifting, lift, readBack, projecting, project, exchanging, exchange}
-use Rattle.model.specs.Demands.{Lifts, Projects}
+use Rattle.model.specs.Demands.{Correspond, Lifts, Projects}
 use Rattle.model.proofs.Answers.{unless-run, not-stuck, stuck-none, exchanging-run, short-length, length-short}
 use Rattle.model.proofs.Exchange.{exchanged-twice, length-exchanged}
-use Rattle.model.proofs.Demands.{lift-lifts, lift-project, lift-exactly, lift-again, project-projects, exchange-exchanged, exchange-lifts, exchange-ends}
+use Rattle.model.proofs.Demands.{lift-lifts, lift-project, lift-exactly, lift-again, project-projects, project-exactly, exchange-exchanged, exchange-lifts, exchange-ends}
 use Rattle.refusal.specs.declared.Judged.{Judged}
 use Rattle.refusal.specs.declared.Judged.the-variants.{Fine}
 use Rattle.refusal.specs.Answer as refused
@@ -36,7 +36,7 @@ use Rattle.across.specs.Calls.{fitted, numbersOf, ended}
 use Rattle.lift.specs.Calls.{liftOf, liftedOf}
 use Rattle.ends.specs.Calls.{liftEndOf, liftEndedOf, unfoldedReplayOf, unfoldedReplayedOf}
 use Rattle.project.specs.Calls.{projectOf, projectedOf}
-use Rattle.promises.specs.Across.{liftOn, projectOn, TakenBack, ReadBack, TurnedAway, LiftedAlike}
+use Rattle.promises.specs.Across.{liftOn, projectOn, TakenBack, ReadBack, TakenExactly, TurnedAway, LiftedAlike}
 use Rattle.promises.proofs.Game.{swapping-fine}
 
 -- ---- room
@@ -115,39 +115,43 @@ project-length n w r p = ap length (sym (p .back)) ∙ length-map w (λ j. origi
 
 -- ---- demand 2
 
--- What lift wrote, project takes back to the run.
-pub lift-taken-back : (s r out : List ℕ) (c : ℕ) → liftOf s r (length out) ≡ Fine c → (back end : List ℕ) → TakenBack s r out back end
+-- What lift wrote is a run of the unfolded net with the corresponding end, and project takes it back to the run.
+pub lift-taken-back : (s r out : List ℕ) (c : ℕ) → liftOf s r (length out) ≡ Fine c → (runOut endOut : List ℕ) → TakenBack s r out runOut endOut
 unfolding liftOf liftedOf projectedOf liftEndedOf unfoldedReplayedOf ended
-lift-taken-back s r out c h back end =
+lift-taken-back s r out c h runOut endOut =
     let (n, j, f) = then-fine (judgeOf s) (λ _. fitted (lift (netOf s) r) (length out)) c h in
     let (w, a, e, room) = fitted-fine (lift (netOf s) r) (length out) c f in
     let p = lift-project (netOf s) r w a in
-    let long = lift-length (netOf s) r w (lift-lifts (netOf s) r w a) in
+    let l = lift-lifts (netOf s) r w a in
+    let long = lift-length (netOf s) r w l in
     let on : liftOn s r out ≡ w
     = ap (λ (k : ℕ). take k (liftedOf s r out)) (sym long)
     ∙ ap (λ (x : List ℕ). take (length w) (written (liftOf s r (length out)) x out)) (ap numbersOf a)
     ∙ front (liftOf s r (length out)) c w out h in
-    let same : unfoldedReplayOf s w (length end) ≡ liftEndOf s r (length end)
-    = unfolded-replay-by s n j w (length end) ∙ ap (λ (x : Answer). ended x (basic (netOf s) .conditions) (length end)) p
-    ∙ sym (lift-end-by s n j r (length end) ∙ ap (λ (x : Answer). ended x (basic (netOf s) .conditions) (length end)) a) in
+    let same : unfoldedReplayOf s w (length endOut) ≡ liftEndOf s r (length endOut)
+    = unfolded-replay-by s n j w (length endOut) ∙ ap (λ (x : Answer). ended x (basic (netOf s) .conditions) (length endOut)) p
+    ∙ sym (lift-end-by s n j r (length endOut) ∙ ap (λ (x : Answer). ended x (basic (netOf s) .conditions) (length endOut)) a) in
     record {
-      answer = λ g. ap (λ (x : List ℕ). projectOf s x (length back)) on ∙ project-given s n j w r (length back) p g;
+      unfolded = subst (λ (x : List ℕ). T (runs (basic (netOf s)) (begin (basic (netOf s))) x)) (sym on) (l .run);
+      back = ap (readBack (netOf s)) on ∙ l .back;
+      ends = subst (λ (x : List ℕ). Correspond (netOf s) (end (netOf s) (begin (netOf s)) r) (end (basic (netOf s)) (begin (basic (netOf s))) x)) (sym on) (l .ends);
+      answer = λ g. ap (λ (x : List ℕ). projectOf s x (length runOut)) on ∙ project-given s n j w r (length runOut) p g;
       run = λ g.
-          ap (λ (x : List ℕ). projectOn s x back) on
-          ∙ ap (λ (k : ℕ). take k (projectedOf s w back)) long
-          ∙ ap (λ (x : List ℕ). take (length r) (written (projectOf s w (length back)) x back)) (ap numbersOf p)
-          ∙ front (projectOf s w (length back)) (length r) r back (project-given s n j w r (length back) p g);
-      end-answer = ap (λ (x : List ℕ). unfoldedReplayOf s x (length end)) on ∙ same;
-      same-end = ap (λ (x : List ℕ). unfoldedReplayedOf s x end) on ∙ told s r w end same a;
+          ap (λ (x : List ℕ). projectOn s x runOut) on
+          ∙ ap (λ (k : ℕ). take k (projectedOf s w runOut)) long
+          ∙ ap (λ (x : List ℕ). take (length r) (written (projectOf s w (length runOut)) x runOut)) (ap numbersOf p)
+          ∙ front (projectOf s w (length runOut)) (length r) r runOut (project-given s n j w r (length runOut) p g);
+      end-answer = ap (λ (x : List ℕ). unfoldedReplayOf s x (length endOut)) on ∙ same;
+      same-end = ap (λ (x : List ℕ). unfoldedReplayedOf s x endOut) on ∙ told s r w endOut same a;
     }
   where
     told : (s r w out : List ℕ) → unfoldedReplayOf s w (length out) ≡ liftEndOf s r (length out) → lift (netOf s) r ≡ run w → unfoldedReplayedOf s w out ≡ liftEndedOf s r out
     told s r w out e a = rw (e, a)
 
--- What project wrote, replay accepts.
-pub project-read-back : (s w out : List ℕ) (c : ℕ) → projectOf s w (length out) ≡ Fine c → (end : List ℕ) → ReadBack s w out end
+-- What project wrote is a run of the table with the corresponding end, and replay accepts it.
+pub project-read-back : (s w out : List ℕ) (c : ℕ) → projectOf s w (length out) ≡ Fine c → (endOut : List ℕ) → ReadBack s w out endOut
 unfolding projectOf projectedOf project
-project-read-back s w out c h end =
+project-read-back s w out c h endOut =
     let (n, j, f) = then-fine (judgeOf s) (λ _. fitted (project (netOf s) w) (length out)) c h in
     let (r, a, e, room) = fitted-fine (project (netOf s) w) (length out) c f in
     let p = project-projects (netOf s) (accepted-sound s n j) w r a in
@@ -157,7 +161,28 @@ project-read-back s w out c h end =
     = ap (λ (k : ℕ). take k (projectedOf s w out)) (sym long)
     ∙ ap (λ (x : List ℕ). take (length r) (written (projectOf s w (length out)) x out)) (ap numbersOf a)
     ∙ front (projectOf s w (length out)) c r out h in
-    record { answer = λ g. ap (λ (x : List ℕ). replayOf s x (length end)) on ∙ replay-given s n j r (length end) (subst (λ (k : ℕ). k ≤ mostSteps) (sym long) short) (p .run) g }
+    record {
+      unfolded = p .unfolded;
+      back = on ∙ sym (p .back);
+      run = subst (λ (x : List ℕ). T (runs (netOf s) (begin (netOf s)) x)) (sym on) (p .run);
+      ends = subst (λ (x : List ℕ). Correspond (netOf s) (end (netOf s) (begin (netOf s)) x) (end (basic (netOf s)) (begin (basic (netOf s))) w)) (sym on) (p .ends);
+      answer = λ g. ap (λ (x : List ℕ). replayOf s x (length endOut)) on ∙ replay-given s n j r (length endOut) (subst (λ (k : ℕ). k ≤ mostSteps) (sym long) short) (p .run) g;
+    }
+
+-- Project takes every run of the unfolded net from its start, and nothing else.
+pub taken-exactly : (s w : List ℕ) (n : ℕ) → judgeOf s ≡ Fine n → unfoldingRefused (netOf s) ≡ none → length w ≤ mostSteps → (room : ℕ) → TakenExactly s w room
+taken-exactly s w n j unfolds short room =
+    record {
+      taking = λ g. (
+        λ e.
+            let (r, a, u, v) = fitted-fine (project (netOf s) w) room (length w) (sym (project-by s n j w room) ∙ e) in
+            project-exactly (netOf s) w (length-short w short) unfolds .0 (r, a),
+        λ t.
+            let (r, a) = project-exactly (netOf s) w (length-short w short) unfolds .1 t in
+            let long = project-length (netOf s) w r (project-projects (netOf s) (accepted-sound s n j) w r a) in
+            project-given s n j w r room a (omega (arith, g, long)) ∙ ap Fine long,
+      );
+    }
 
 -- ---- 15 exactly when
 
@@ -277,9 +302,9 @@ module _ (s r : List ℕ) (k n : ℕ) (j : judgeOf s ≡ Fine n) (q : List ℕ) 
       ∙ sym (ended-as s r out w c e b)
 
 -- Of a run and the run that exchange leaves, one lifts exactly if the other does, and the lifts differ by the exchange alone.
-pub exchange-lifted-alike : (s r : List ℕ) (k c : ℕ) → exchangeOf s r k ≡ Fine c → (out end : List ℕ) → LiftedAlike s r k out end
+pub exchange-lifted-alike : (s r : List ℕ) (k c : ℕ) → exchangeOf s r k ≡ Fine c → (out endOut : List ℕ) → LiftedAlike s r k out endOut
 unfolding exchangeOf exchangedOf exchange
-exchange-lifted-alike s r k c h out end =
+exchange-lifted-alike s r k c h out endOut =
     let (n, j, f) = then-fine (judgeOf s) (λ n. swapping (exchange (netOf s) r k)) c h in
     let (q, a) = swapping-fine (exchange (netOf s) r k) c f in
     let next = exchanging-run (netOf s) r k q (unless-run (tooLong r) (exchanging (netOf s) r k) q a .1) .1 in
@@ -287,6 +312,6 @@ exchange-lifted-alike s r k c h out end =
     record {
       both = λ x. subst (λ (y : List ℕ). (liftOf s r (length out) ≡ Fine x) ↔ (liftOf s y (length out) ≡ Fine x)) (sym left) (both-lift s r k n j q a (length out) x);
       swapped = λ x e. ap (λ (y : List ℕ). liftedOf s y out) left ∙ swapped s r k n j q a next out x e;
-      both-end = λ x. subst (λ (y : List ℕ). (liftEndOf s r (length end) ≡ Fine x) ↔ (liftEndOf s y (length end) ≡ Fine x)) (sym left) (both-end s r k n j q a (length end) x);
-      same-end = λ x e. ap (λ (y : List ℕ). liftEndedOf s y end) left ∙ same-end s r k n j q a end x e;
+      both-end = λ x. subst (λ (y : List ℕ). (liftEndOf s r (length endOut) ≡ Fine x) ↔ (liftEndOf s y (length endOut) ≡ Fine x)) (sym left) (both-end s r k n j q a (length endOut) x);
+      same-end = λ x e. ap (λ (y : List ℕ). liftEndedOf s y endOut) left ∙ same-end s r k n j q a endOut x e;
     }

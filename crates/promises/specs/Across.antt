@@ -3,9 +3,14 @@ use mathlib.Core.Path.{_≡_}
 use mathlib.Core.Logic.{_↔_}
 use mathlib.Core.List.{List}
 use Prim.Native.Nat.{ℕ, _≤_}
+use lib.Dec.{T}
 use lib.ListN.{length, take}
+use Rattle.model.specs.Net.{begin}
+use Rattle.model.specs.Runs.{runs, end}
+use Rattle.model.specs.Unfolding.{basic}
 use Rattle.model.specs.Exchange.{exchanged}
-use Rattle.model.specs.Demands.{Again, FirstAgain}
+use Rattle.model.specs.Across.{readBack}
+use Rattle.model.specs.Demands.{Correspond, Again, FirstAgain}
 use Rattle.refusal.specs.declared.Judged.the-variants.{Fine}
 use Rattle.refusal.specs.Answer.{refusedAt}
 use Rattle.table.specs.Decoded.{netOf}
@@ -23,17 +28,31 @@ liftOn s r out = take (length r) (liftedOf s r out)
 abbrev pub projectOn : List ℕ → List ℕ → List ℕ → List ℕ
 projectOn s w out = take (length w) (projectedOf s w out)
 
--- What lift wrote is a run of the unfolding that reads back as the run: project takes it, given room, and writes the run; and the end
--- that lift tells is the one that a replay in the unfolded net comes to (01, Runs across: demand 2).
-pub record TakenBack (s r out back end : List ℕ) : Type 0 where
-  pub answer : length r ≤ length back → projectOf s (liftOn s r out) (length back) ≡ Fine (length r)
-  pub run : length r ≤ length back → projectOn s (liftOn s r out) back ≡ r
-  pub end-answer : unfoldedReplayOf s (liftOn s r out) (length end) ≡ liftEndOf s r (length end)
-  pub same-end : unfoldedReplayedOf s (liftOn s r out) end ≡ liftEndedOf s r end
+-- What lift wrote is a run of the unfolded net from its start that reads back as the run, and the two ends correspond; project takes it,
+-- given room, and writes the run; and the end that lift tells is the one that a replay in the unfolded net comes to (01, Runs across:
+-- demand 2).
+pub record TakenBack (s r out runOut endOut : List ℕ) : Type 0 where
+  pub unfolded : T (runs (basic (netOf s)) (begin (basic (netOf s))) (liftOn s r out))
+  pub back : readBack (netOf s) (liftOn s r out) ≡ r
+  pub ends : Correspond (netOf s) (end (netOf s) (begin (netOf s)) r) (end (basic (netOf s)) (begin (basic (netOf s))) (liftOn s r out))
+  pub answer : length r ≤ length runOut → projectOf s (liftOn s r out) (length runOut) ≡ Fine (length r)
+  pub run : length r ≤ length runOut → projectOn s (liftOn s r out) runOut ≡ r
+  pub end-answer : unfoldedReplayOf s (liftOn s r out) (length endOut) ≡ liftEndOf s r (length endOut)
+  pub same-end : unfoldedReplayedOf s (liftOn s r out) endOut ≡ liftEndedOf s r endOut
 
--- What project wrote is a run of the table: replay accepts it, given room (01, Runs across: demand 2).
-pub record ReadBack (s w out end : List ℕ) : Type 0 where
-  pub answer : netOf s .conditions ≤ length end → replayOf s (projectOn s w out) (length end) ≡ Fine (netOf s .conditions)
+-- What project wrote are the table's events behind the steps of a run of the unfolded net from its start; they are a run of the table,
+-- which replay accepts, given room, and the two ends correspond (01, Runs across: demand 2).
+pub record ReadBack (s w out endOut : List ℕ) : Type 0 where
+  pub unfolded : T (runs (basic (netOf s)) (begin (basic (netOf s))) w)
+  pub back : projectOn s w out ≡ readBack (netOf s) w
+  pub run : T (runs (netOf s) (begin (netOf s)) (projectOn s w out))
+  pub ends : Correspond (netOf s) (end (netOf s) (begin (netOf s)) (projectOn s w out)) (end (basic (netOf s)) (begin (basic (netOf s))) w)
+  pub answer : netOf s .conditions ≤ length endOut → replayOf s (projectOn s w out) (length endOut) ≡ Fine (netOf s .conditions)
+
+-- Of an accepted table that unfolds and at most 4,096 numbers, project, given room, takes exactly the runs of the unfolded net from its
+-- start (01, Runs across: demand 2).
+pub record TakenExactly (s w : List ℕ) (room : ℕ) : Type 0 where
+  pub taking : length w ≤ room → (projectOf s w room ≡ Fine (length w)) ↔ T (runs (basic (netOf s)) (begin (basic (netOf s))) w)
 
 -- A run that replay accepts, of a table that unfolds, is refused with 15 at a step exactly if that is the first at which an event with a
 -- persistent postcondition comes again; given room, it lifts exactly if there is none (01, Runs across: demand 2).
@@ -43,8 +62,8 @@ pub record TurnedAway (s r : List ℕ) (room : ℕ) : Type 0 where
 
 -- Of a run and the run that exchange leaves, one lifts exactly if the other does; the lifts differ by the same exchange alone, whatever
 -- stands past them in the lent output; and their unfolded ends are the same (01, Runs across: demand 3).
-pub record LiftedAlike (s r : List ℕ) (k : ℕ) (out end : List ℕ) : Type 0 where
+pub record LiftedAlike (s r : List ℕ) (k : ℕ) (out endOut : List ℕ) : Type 0 where
   pub both : (c : ℕ) → (liftOf s r (length out) ≡ Fine c) ↔ (liftOf s (exchangedOf s r k) (length out) ≡ Fine c)
   pub swapped : (c : ℕ) → liftOf s r (length out) ≡ Fine c → liftedOf s (exchangedOf s r k) out ≡ exchanged k (liftedOf s r out)
-  pub both-end : (c : ℕ) → (liftEndOf s r (length end) ≡ Fine c) ↔ (liftEndOf s (exchangedOf s r k) (length end) ≡ Fine c)
-  pub same-end : (c : ℕ) → liftEndOf s r (length end) ≡ Fine c → liftEndedOf s (exchangedOf s r k) end ≡ liftEndedOf s r end
+  pub both-end : (c : ℕ) → (liftEndOf s r (length endOut) ≡ Fine c) ↔ (liftEndOf s (exchangedOf s r k) (length endOut) ≡ Fine c)
+  pub same-end : (c : ℕ) → liftEndOf s r (length endOut) ≡ Fine c → liftEndedOf s (exchangedOf s r k) endOut ≡ liftEndedOf s r endOut
