@@ -1,7 +1,7 @@
 -- Demand 1 for every call: it is worked, or refused with a number of its list, and then its lent output, which stands here as the
 -- memory at exit, is as it was at entry.
-use mathlib.Core.Path.{_≡_, sym, _∙_}
-use mathlib.Core.Bool.{Bool, true, false}
+use mathlib.Core.Path.{_≡_, sym, ap, _∙_}
+use mathlib.Core.Bool.{true, false}
 use mathlib.Core.List.{List, _∷_}
 use Prim.Native.Nat.{ℕ}
 use lib.Dec.{T, eqb}
@@ -9,21 +9,21 @@ use lib.ListN.{length}
 use denote.Ref.{now}
 use Rattle.lists.specs.Lists.{mem}
 use Rattle.lists.proofs.Bools.{or-right}
-use Rattle.model.specs.Unfolding.{UnfoldedCondition, ordinary, copy, UnfoldedEvent, origin}
 use Rattle.refusal.specs.declared.Refusal.{Refusal}
 use Rattle.refusal.specs.declared.Judged.{Judged}
 use Rattle.refusal.specs.declared.Judged.the-variants.{Fine, Refused}
-use Rattle.refusal.specs.Answer.{written}
+use Rattle.refusal.specs.Answer.{numberOf, written}
 use Rattle.table.specs.Decoded.{netOf}
-use Rattle.parts.specs.Asked.{askedOf, askedConditionOf, persistenceIf, persistenceOf, persistenceNumber}
+use Rattle.parts.specs.Asked.{askedOf, askedConditionOf, persistenceNumber}
+use Rattle.parts.proofs.Told.{persistence-number}
 use Rattle.game.specs.Calls.{leaves, fireOf, firedOf}
 use Rattle.replay.specs.Calls.{replayOf, endOf, replayFromOf, endFromOf}
 use Rattle.exchange.specs.Calls.{exchangeOf, exchangedOf}
 use Rattle.runs.specs.Runs.{runKind, liftedKind, readAnswer, writeAnswer, runInto, recordInto}
 use Rattle.events.specs.Answers as unfolded
-use Rattle.events.specs.Answers.{originJudged, originIf, originOf}
+use Rattle.events.specs.Answers.{originJudged}
 use Rattle.conditions.specs.Answers.{numbered}
-use Rattle.conditions.specs.Origins.{conditionAt, conditionJudged, toldIf, conditionOriginOf, originNumber}
+use Rattle.conditions.specs.Origins.{conditionJudged, originNumber}
 use Rattle.listed.specs.Calls.{listingOf, listedOf}
 use Rattle.starting.specs.Calls.{unfoldedStartOf, unfoldedStartedOf}
 use Rattle.firing.specs.Calls.{unfoldedFireOf, unfoldedFiredOf}
@@ -34,6 +34,7 @@ use Rattle.asking.specs.Calls.{preconditionsOf, preconditionsInto, postconditio
 use Rattle.listing.specs.Calls.{pieceOf, filesOf}
 use Rattle.promises.specs.Refused.{ofList, ofTableStart, ofFiles, ofPiece, ofNumbering, ofListing, ofStart, ofUnfoldedFiring, ofLift, ofProject, ofTable, ofAsking, ofFiring, ofReplay, ofReplayFrom, ofExchange, ofUnfolding, ofReading, ofWriting, listed, Refusing}
 use Rattle.promises.proofs.Refused.{listed-need, judge-listed, judged-listed, firing-listed, replay-listed, replay-from-listed, exchange-listed, record-listed, preconditions-listed, postconditions-listed, start-listed, files-listed, piece-listed, unfolding-of-listed, listing-listed, unfolded-start-listed, unfolded-fire-listed, lift-listed, lift-end-listed, project-listed, unfolded-replay-listed, read-listed, write-listed}
+use Rattle.promises.proofs.Told.{condition-number, event-answer}
 use Rattle.table.proofs.judge.Reads as judge
 use Rattle.table.proofs.condition_count.Reads as condition-count
 use Rattle.table.proofs.event_count.Reads as event-count
@@ -91,20 +92,10 @@ late-refused numbers r answer new old out e t f = record { number = rw e t; kept
     kept : {x : Refusal} → r ≡ Refused x → written r new old ≡ old
     kept g = rw g
 
--- answers that are no `Judged`: their number is 0 where nothing is refused
-persistence-listed : (a : Judged) (b : Bool) → T (listed ofAsking a) → T (mem (persistenceNumber (persistenceIf a b)) (0 ∷ ofAsking))
-persistence-listed (Fine at) true h = tt
-persistence-listed (Fine at) false h = tt
-persistence-listed (Refused x) b h = or-right (eqb (x .number) 0) (mem (x .number) ofAsking) h
-
-origin-listed : (a : Judged) (y : UnfoldedEvent) → T (listed ofNumbering a) → T (listed ofNumbering (originIf a y .answer))
-origin-listed (Fine k) y h = tt
-origin-listed (Refused x) y h = h
-
-told-listed : (a : Judged) (p : UnfoldedCondition) → T (listed ofNumbering a) → T (mem (originNumber (toldIf a p)) (0 ∷ ofNumbering))
-told-listed (Fine k) (ordinary b) h = tt
-told-listed (Fine k) (copy b m u) h = tt
-told-listed (Refused x) p h = or-right (eqb (x .number) 0) (mem (x .number) ofNumbering) h
+-- the number of an answer that is no `Judged`: 0 where nothing is refused
+zero-listed : (l : List ℕ) (a : Judged) {number : ℕ} → number ≡ numberOf a → T (listed l a) → T (mem number (0 ∷ l))
+zero-listed l (Fine k) e h = rw e tt
+zero-listed l (Refused x) e h = rw e (or-right (eqb (x .number) 0) (mem (x .number) l) h)
 
 -- ---- a table asked
 
@@ -183,12 +174,13 @@ pub unfolded-event-count-refused : (κs : _) (a : _) (r : _) (x : _) → unfolde
 unfolded-event-count-refused κs a r x h = rw h (unfolding-of-listed ofUnfolding (now (a .0)) _ tt tt)
 
 pub persistent-refused : (κs : _) (a : _) (r : _) (x : _) → persistent.Learnt κs a r x → T (mem (persistenceNumber r) (0 ∷ ofAsking))
-unfolding persistenceOf askedConditionOf
-persistent-refused κs a r x h = rw h (persistence-listed (askedConditionOf (now (a .0)) (a .1 .0 .0)) (netOf (now (a .0)) .persistent (a .1 .0 .0)) (judged-listed ofAsking (now (a .0)) _ tt (λ n. listed-need ofAsking _ 10 0 _ tt tt)))
+unfolding askedConditionOf
+persistent-refused κs a r x h =
+    zero-listed ofAsking (askedConditionOf (now (a .0)) (a .1 .0 .0)) (ap persistenceNumber h ∙ persistence-number (now (a .0)) (a .1 .0 .0)) (judged-listed ofAsking (now (a .0)) _ tt (λ n. listed-need ofAsking _ 10 0 _ tt tt))
 
 pub event-origin-refused : (κs : _) (a : _) (r : _) (x : _) → event-origin.Learnt κs a r x → T (listed ofNumbering (r .answer))
-unfolding originOf originJudged
-event-origin-refused κs a r x h = rw h (origin-listed (originJudged (now (a .0)) (a .1 .0 .0)) (origin (netOf (now (a .0))) (a .1 .0 .0)) (unfolding-of-listed ofNumbering (now (a .0)) _ tt (listed-need ofNumbering _ 10 0 _ tt tt)))
+unfolding originJudged
+event-origin-refused κs a r x h = rw (h, event-answer (now (a .0)) (a .1 .0 .0)) (unfolding-of-listed ofNumbering (now (a .0)) _ tt (listed-need ofNumbering _ 10 0 _ tt tt))
 
 pub event-number-refused : (κs : _) (a : _) (r : _) (x : _) → event-number.Learnt κs a r x → T (listed ofNumbering r)
 unfolding unfolded.numberOf
@@ -203,8 +195,9 @@ unfolding numbered
 copy-number-refused κs a r x h = rw h (unfolding-of-listed ofNumbering (now (a .0)) _ tt (listed-need ofNumbering _ 10 0 _ tt tt))
 
 pub condition-origin-refused : (κs : _) (a : _) (r : _) (x : _) → condition-origin.Learnt κs a r x → T (mem (originNumber r) (0 ∷ ofNumbering))
-unfolding conditionOriginOf conditionJudged
-condition-origin-refused κs a r x h = rw h (told-listed (conditionJudged (now (a .0)) (a .1 .0 .0)) (conditionAt (netOf (now (a .0))) (a .1 .0 .0)) (unfolding-of-listed ofNumbering (now (a .0)) _ tt (listed-need ofNumbering _ 10 0 _ tt tt)))
+unfolding conditionJudged
+condition-origin-refused κs a r x h =
+    zero-listed ofNumbering (conditionJudged (now (a .0)) (a .1 .0 .0)) (ap originNumber h ∙ condition-number (now (a .0)) (a .1 .0 .0)) (unfolding-of-listed ofNumbering (now (a .0)) _ tt (listed-need ofNumbering _ 10 0 _ tt tt))
 
 pub record-at-refused : (κs : _) (a : _) (r : _) (x : _) → record-at.Learnt κs a r x → T (listed ofTable r)
 record-at-refused κs a r x h = rw h (record-listed (now (a .0)) (a .1 .0))

@@ -1,6 +1,7 @@
 pub mod Refused
 pub mod Game
 pub mod Across
+pub mod Told
 pub mod Kept
 pub mod One
 pub mod OneOutward

@@ -8,6 +8,7 @@ use Rattle.lists.specs.Lists.{mem}
 use Rattle.refusal.specs.declared.Refusal.{Refusal}
 use Rattle.refusal.specs.declared.Judged.{Judged}
 use Rattle.refusal.specs.declared.Judged.the-variants.{Fine, Refused}
+use Rattle.refusal.specs.Answer.{numberOf}
 
 -- ---- numbers by what is asked
 
@@ -92,7 +93,7 @@ ofPiece = 18 ∷ 16 ∷ []
 -- An answer is fine or refused with one of these numbers (01, Refusal numbers).
 abbrev pub listed : List ℕ → Judged → Bool
 listed numbers (Fine value) = true
-listed numbers (Refused refusal) = mem (refusal .number) numbers
+listed numbers (Refused refusal) = mem (numberOf (Refused refusal)) numbers
 
 -- A call is worked, or refused with one of these numbers while its lent memory stays as it was (01, Refusal numbers: demand 1).
 pub record Refusing (numbers : List ℕ) (answer : Judged) (old new : List ℕ) : Type 0 where
