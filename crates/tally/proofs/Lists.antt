@@ -44,6 +44,10 @@ module _ (counts list : List ℕ) (i w : ℕ) (h : 1 < length list - i) (e : w �
   pub inside-later : (k : ℕ) → ((b : ℕ) → T (mem b (words (drop i list))) → b < k) → (b : ℕ) → T (mem b (words (drop (i + 2) list))) → b < k
   inside-later k f b t = f b (rw (words-next list i h) (or-right (eqb b (wordAt list i)) (mem b (words (drop (i + 2) list))) t))
 
+-- below 256 the first byte of a number is the number
+pub first-byte : (list : List ℕ) (i k : ℕ) → 1 < length list - i → ((b : ℕ) → T (mem b (words (drop i list))) → b < k) → k ≤ 256 → getD list i 0 ≡ wordAt list i
+first-byte list i k h f n = omega (arith, inside-here [] list i (wordAt list i) h refl k f)
+
 pub raised-end : (counts list : List ℕ) (i : ℕ) → length list - i ≤ 1 → raised counts (words (drop i list)) ≡ counts
 unfolding raised
 raised-end counts list i h = rw (words-end list i h)

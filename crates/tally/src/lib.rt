@@ -51,13 +51,27 @@ pub fn raise(counts: &mut [u32], list: &[u8])
     }
 }
 
+// The same where there are 256 numbers, so that the first byte of a condition tells it.
+fn raise_low(counts: &mut [u32], list: &[u8])
+    requires { ⌜ Room (now counts) (now list) ⌝ }
+    requires { ⌜ length (now counts) ≡ 256 ⌝ }
+    ensures { λ r. ⌜ now (counts .exit) ≡ raised (now (counts .entry)) (words (now (list .entry))) ⌝ }
+{
+    let mut i: usize = 0;
+    while 1 < list.len() - i {
+        let b = list[i] as usize;
+        counts[b] = counts[b] + 1;
+        i = i + 2;
+    }
+}
+
 // 1 for each condition of a list, 0 for every other.
 pub fn members(list: &[u8]) -> [u32; 256]
     requires { ⌜ Listed (now list) ⌝ }
     ensures { λ r. ⌜ Members (words (now (list .entry))) r ⌝ }
 {
     let mut counts = [0u32; 256];
-    raise(&mut counts, list);
+    raise_low(&mut counts, list);
     counts
 }
 
@@ -72,7 +86,7 @@ pub fn tally(table: &[u8], upto: usize, post: bool, first: u32, counts: &mut [u3
     let mut at = 4 + words::word(table, 0) as usize;
     let mut i: usize = 0;
     while i < upto {
-        raise(counts, list_at(table, at, post));
+        raise_low(counts, list_at(table, at, post));
         at = at + 4 + words::word(table, at) as usize;
         i = i + 1;
     }

@@ -24,9 +24,9 @@ loop-holds c =
     let t = tally-none (netOf (c .before .before .before .before .before .before .before .args .table .now)) (c .before .before .before .before .before .before .before .args .post) (c .before .before .before .before .before .before .before .args .first) (length (c .before .before .before .before .before .before .before .args .counts .now)) (c .before .before .before .fill .last .0) (omega arith) (c .before .before .before .fill .ensures) in
     (omega arith, walk-first (c .before .before .before .before .before .before .before .args .table .now) (c .word .result) (c .word .ensures), t .size, t)
 
-raise-requires : tie.Need-raise-requires Inv-loop μ-loop
-raise-requires c κs =
-    tally-room (c .before .before .before .before .before .before .before .before .before .before .before .args .table .now) (c .before .before .before .before .before .before .before .before .before .before .before .args .post) (c .before .before .before .before .before .before .before .before .before .before .before .args .first) (c .before .before .before .loop .i) (c .before .before .before .loop .counts) (omega arith) (omega arith) (c .before .before .before .loop .inv .3) (c .before .before .before .loop .at) (c .list-at .result .now) (c .before .before .before .loop .inv .1) (c .list-at .ensures)
+raise-low-requires : tie.Need-raise-low-requires Inv-loop μ-loop
+raise-low-requires c κs =
+    (tally-room (c .before .before .before .before .before .before .before .before .before .before .before .args .table .now) (c .before .before .before .before .before .before .before .before .before .before .before .args .post) (c .before .before .before .before .before .before .before .before .before .before .before .args .first) (c .before .before .before .loop .i) (c .before .before .before .loop .counts) (omega arith) (omega arith) (c .before .before .before .loop .inv .3) (c .before .before .before .loop .at) (c .list-at .result .now) (c .before .before .before .loop .inv .1) (c .list-at .ensures), c .before .before .before .loop .inv .2)
 
 add-at-2 : tie.Need-add-at-2 Inv-loop μ-loop
 add-at-2 c =
@@ -40,7 +40,7 @@ loop-again : tie.Need-loop-again Inv-loop μ-loop
 loop-again c =
     let on = walk-next (c .before .before .before .before .before .before .before .before .before .before .before .before .before .before .before .args .table .now) (c .before .before .before .before .before .before .before .loop .i) (c .before .before .before .before .before .before .before .loop .at) (omega arith) (c .before .before .before .before .before .before .before .loop .inv .1) (c .word2 .result) (c .word2 .ensures) in
     let t = tally-next (c .before .before .before .before .before .before .before .before .before .before .before .before .before .before .before .args .table .now) (c .before .before .before .before .before .before .before .before .before .before .before .before .before .before .before .args .post) (c .before .before .before .before .before .before .before .before .before .before .before .before .before .before .before .args .first) (c .before .before .before .before .before .before .before .loop .i) (c .before .before .before .before .before .before .before .loop .counts) (omega arith) (omega arith) (c .before .before .before .before .before .before .before .loop .inv .3) (c .before .before .before .before .before .before .before .loop .at) (c .before .before .before .before .list-at .result .now) (c .before .before .before .before .before .before .before .loop .inv .1) (c .before .before .before .before .list-at .ensures) in
-    (omega arith, on, rw (c .before .before .before .raise .ensures) (t .size), rw (c .before .before .before .raise .ensures) t)
+    (omega arith, on, rw (c .before .before .before .raise-low .ensures) (t .size), rw (c .before .before .before .raise-low .ensures) t)
 
 returns : tie.Need-returns Inv-loop μ-loop
 returns c =
@@ -59,7 +59,7 @@ tally-spec =
     (λ c. search needs)
     loop-holds
     (λ c κs. search needs)
-    raise-requires
+    raise-low-requires
     add-at-2
     (λ c κs. search needs)
     (λ c. search needs)
