@@ -1,12 +1,14 @@
 -- A step on bytes is the model's: what its tests find, and what the bytes set in turn come to.
-use Prim.Native.Nat.{ℕ, _<_}
+use Prim.Native.Nat.{ℕ, _≤_, _<_}
+use native.Mathlib.Decide.{decLe}
+use native.Mathlib.Nat.{lt-of-not-le}
 use native.Mathlib.Omega.{arith}
-use mathlib.Core.Path.{_≡_, refl, sym, ap, _∙_}
+use mathlib.Core.Path.{_≡_, refl, sym, ap, _∙_, fun-ext}
 use mathlib.Core.Bool.{Bool, true, false, not, _&&_, _||_, cond}
 use mathlib.Core.Option.{Option, none, some}
 use mathlib.Core.List.{List, [], _∷_}
 use lib.Dec.{eqb}
-use lib.ListN.{length, getD, set, length-set}
+use lib.ListN.{length, getD, set, replicate, length-set, length-replicate, getD-replicate}
 use lib.Seq.{getD-set-same, getD-set-other}
 use borrow.Author.Tests.{eqb-true, eqb-false}
 use Rattle.lists.specs.Lists.{mem, failing}
@@ -20,11 +22,11 @@ use Rattle.game.specs.declared.Cause.{Cause}
 use Rattle.game.specs.declared.Cause.the-variants.{Lacks, Meets}
 use Rattle.game.specs.declared.Failing.{Failing}
 use Rattle.game.specs.declared.Failing.the-variants.{Nothing, At}
-use Rattle.game.specs.declared.Test.the-variants.{Holds, Clear}
+use Rattle.game.specs.declared.Test.the-variants.{Holds}
 use Rattle.model.specs.Lent.{bit, bytes, marking}
 use Rattle.game.specs.Lent.{Lent}
-use Rattle.game.specs.Steps.{passesOf, failingOf, setOne, setAll, recordNet, stepOf, stepped}
-use Rattle.model.proofs.Lent.{bytes-are}
+use Rattle.game.specs.Steps.{passesOf, clearOf, failingOf, setOne, setAll, recordNet, stepOf, stepped}
+use Rattle.model.proofs.Lent.{bytes-are, bytes-at, bit-one, tidy-marking}
 use Rattle.game.proofs.Bytes.{lent-at}
 
 -- ---- the test
@@ -50,7 +52,7 @@ module _ (s l : List ℕ) (at : ℕ) (f pre post : List ℕ) (isF : f ≡ flags 
   low = failing (passesOf Holds f (marking l) (words pre) (words post)) (words pre)
 
   abbrev high : Option ℕ
-  high = failing (passesOf Clear f (marking l) (words pre) (words post)) (words post)
+  high = failing (clearOf f (marking l) (λ b. mem b (words pre))) (words post)
 
   stops : firstStop true low high ≡ stopping (recordNet s at) (marking l) 0
   unfolding stopping lacking contact free recordNet
@@ -113,6 +115,31 @@ all-at kept v (b ∷ bs) l i h =
     either true false false = refl
     either false c true = refl
     either false c false = refl
+
+-- ---- conditions marked in bytes that were all 0
+
+pub put-all : (bs : List ℕ) (c : ℕ) → setAll [] 1 bs (replicate c 0) ≡ bytes c (λ b. mem b bs)
+put-all bs c =
+    bytes-are _ c _ (length-all [] 1 bs (replicate c 0) ∙ length-replicate {A = ℕ} c 0) (λ i h.
+    all-at [] 1 bs (replicate c 0) i (rw length-replicate h)
+    ∙ ap (cond (mem i bs && true) 1) (getD-replicate {A = ℕ} c i 0 0 h) ∙ one (mem i bs))
+  where
+    one : (t : Bool) → cond (t && true) 1 0 ≡ bit t
+    one true = refl
+    one false = refl
+
+-- for bytes that are no more than these, a mark tells what the list does
+pub marked-clear : (f l bs t : List ℕ) (c : ℕ) → length l ≤ c → t ≡ setAll [] 1 bs (replicate c 0)
+    → clearOf f (marking l) (marking t) ≡ clearOf f (marking l) (λ b. mem b bs)
+unfolding marking
+marked-clear f l bs t c h e = fun-ext (λ b. go b (decLe c b))
+  where
+    here : (b : ℕ) → b < c → eqb (getD t b 0) 1 ≡ mem b bs
+    here b p = ap (λ (x : List ℕ). eqb (getD x b 0) 1) (e ∙ put-all bs c) ∙ ap (λ (x : ℕ). eqb x 1) (bytes-at c (λ b. mem b bs) b p) ∙ bit-one (mem b bs)
+
+    go : (b : ℕ) → Dec (c ≤ b) → clearOf f (marking l) (marking t) b ≡ clearOf f (marking l) (λ b. mem b bs) b
+    go b (yes p) = let q : eqb (getD l b 0) 1 ≡ false = tidy-marking l b (omega arith) in rw q
+    go b (no p) = rw (here b (lt-of-not-le p))
 
 -- ---- the firing
 

@@ -81,6 +81,7 @@ module _ (s m : List ℕ) (e : ℕ) where
     pub events : ℕ
     pub judged : judgeOf s ≡ Fine events
     pub long : length m ≡ conditions s
+    pub few : length m ≤ 256
     pub lents : Lent m
     pub below : e < events
     pub place : at ≡ offsetOf s e
@@ -90,7 +91,7 @@ module _ (s m : List ℕ) (e : ℕ) where
   ready-fine at h =
       let k = on-fine s m (λ n. need (ltb e n) 10 0 (Fine (offsetOf s e))) at h in
       let (t, f) = need-fine (ltb e (k .events)) 10 0 at (Fine (offsetOf s e)) (k .goes) in
-      record { events = k .events; judged = k .judged; long = k .long; lents = k .lents; below = ltb-true e (k .events) t; place = cc f }
+      record { events = k .events; judged = k .judged; long = k .long; few = k .few; lents = k .lents; below = ltb-true e (k .events) t; place = cc f }
 
 -- ---- concession and firing, from the event that was found
 

@@ -14,6 +14,7 @@ use Rattle.refusal.proofs.Chain.{need-passes, need-refuses, need-fine, then-fin
 use Rattle.records.specs.Records.{conditions}
 use Rattle.table.specs.Walk.{judgeOf}
 use Rattle.table.specs.Decoded.{netOf}
+use Rattle.table.proofs.Walk.{accepted}
 use Rattle.table.proofs.Decoded.{net-judged}
 use Rattle.game.specs.Lent.{Lent, firstAbove, lent}
 use Rattle.game.specs.Calls.{onMarking}
@@ -82,6 +83,7 @@ pub record Marked (s m : List ℕ) (rest : ℕ → Judged) (x : ℕ) : Type 0 wh
   pub events : ℕ
   pub judged : judgeOf s ≡ Fine events
   pub long : length m ≡ conditions s
+  pub few : length m ≤ 256
   pub lents : Lent m
   pub goes : rest events ≡ Fine x
 
@@ -91,10 +93,12 @@ on-fine s m rest x e =
     let (n, j, r) = then-fine (judgeOf s) _ x e in
     let (t, u) = need-fine (eqb (length m) (netOf s .conditions)) 18 (netOf s .conditions) x _ r in
     let (v, w) = need-fine (leb (length m) (firstAbove m)) 18 (firstAbove m) x _ u in
+    let long : length m ≡ conditions s = eqb-true (length m) (netOf s .conditions) t ∙ conditions-are s n j in
     record {
       events = n;
       judged = j;
-      long = eqb-true (length m) (netOf s .conditions) t ∙ conditions-are s n j;
+      long = long;
+      few = omega (arith, long, accepted s n j .conditionsFine .most);
       lents = lent-of m (none-above m (leb-true (length m) (firstAbove m) v));
       goes = w;
     }

@@ -19,19 +19,23 @@ use Rattle.game.specs.declared.Step.the-variants.{Goes, Stops}
 use Rattle.game.specs.declared.Failing.{Failing}
 use Rattle.game.specs.declared.Failing.the-variants.{Nothing, At}
 use Rattle.game.specs.declared.Test.{Test}
-use Rattle.game.specs.declared.Test.the-variants.{Holds, Clear, Shared, Held, Once}
+use Rattle.game.specs.declared.Test.the-variants.{Holds, Shared, Held, Once}
 
 -- ---- tests of one condition
 
--- What a condition of a list must pass, by the flags of the persistent ones, a marking and the two lists of an event: it holds; it
--- makes no contact; the event touches it only if it is persistent; it holds if it is persistent, or if it is so and the event puts it
--- (01, Playing the table and Runs across).
+-- What a condition of a list must pass, by the flags of the persistent ones, a marking and the two lists of an event: it holds; the
+-- event touches it only if it is persistent; it holds if it is persistent, or if it is so and the event puts it (01, Playing the table
+-- and Runs across).
 abbrev pub passesOf : Test → List ℕ → Marking → List ℕ → List ℕ → ℕ → Bool
 passesOf Holds f m pre post b = m b
-passesOf Clear f m pre post b = not (m b) || (eqb (getD f b 0) 1 || mem b pre)
 passesOf Shared f m pre post b = mem b (pre ++ post) ⇒ eqb (getD f b 0) 1
 passesOf Held f m pre post b = eqb (getD f b 0) 1 ⇒ m b
 passesOf Once f m pre post b = eqb (getD f b 0) 1 && mem b post ⇒ m b
+
+-- A condition makes no contact if it does not hold, or is persistent, or is taken, as the preconditions of the event are (01, Playing
+-- the table).
+abbrev pub clearOf : List ℕ → Marking → Marking → ℕ → Bool
+clearOf f m taken b = not (m b) || (eqb (getD f b 0) 1 || taken b)
 
 -- The first condition that fails, as an answer.
 abbrev pub failingOf : Option ℕ → Failing

@@ -3,8 +3,8 @@ use refusal::Judged;
 use refusal::TableCondition;
 use refusal::TableEvent;
 ghost use mathlib.Core.Path.{_≡_};
-ghost use mathlib.Core.Bool.{not, _||_};
 ghost use mathlib.Core.List.{_++_};
+ghost use Prim.Native.Nat.{_≤_, _<_};
 ghost use lib.ListN.{length};
 ghost use Rattle.lists.specs.Lists.{mem, failing, _⇒_};
 ghost use Rattle.words.specs.Words.{words};
@@ -12,7 +12,7 @@ ghost use Rattle.model.specs.Net.{stopping, fire};
 ghost use Rattle.model.specs.Lent.{bytes, marking};
 ghost use Rattle.game.specs.Lent.{Lent, firstAbove};
 ghost use Rattle.refusal.specs.declared.Judged.the-variants.{Fine};
-ghost use Rattle.game.specs.Steps.{passesOf, failingOf, setOne, setAll, recordNet, causeNumber, stepOf, stepped, answeredOf};
+ghost use Rattle.game.specs.Steps.{passesOf, clearOf, failingOf, setOne, setAll, recordNet, causeNumber, stepOf, stepped, answeredOf};
 ghost use Rattle.game.specs.Ready.{readyOf};
 ghost use Rattle.game.specs.Calls.{onMarking, concessionOf, fireOf, firedOf};
 
@@ -32,7 +32,6 @@ pub enum Step {
 // The tests that the conditions of a list are put to.
 pub enum Test {
     Holds,
-    Clear,
     Shared,
     Held,
     Once,
@@ -58,15 +57,15 @@ pub fn first_above(state: &[u8]) -> usize
     i
 }
 
-// Whether a condition makes no contact: it does not hold, or it is kept, or it is among the preconditions.
-fn clear(holds: bool, kept: bool, pre: &[u8], b: usize) -> bool
-    ensures { λ r. ⌜ r ≡ (not holds || (kept || mem b (words (now (pre .entry))))) ⌝ }
+// Whether a condition makes no contact: it does not hold, or it is kept, or it is among those that are taken.
+fn clear<'a>(flags: &'a [u8], state: &'a [u8], taken: &'a [u8], b: usize) -> bool
+    ensures { λ r. ⌜ r ≡ clearOf (now (flags .entry)) (marking (now (state .entry))) (marking (now (taken .entry))) b ⌝ }
 {
-    if holds {
-        if kept {
+    if words::byte(state, b) == 1 {
+        if words::byte(flags, b) == 1 {
             return true;
         }
-        return words::has(pre, b);
+        return words::byte(taken, b) == 1;
     }
     true
 }
@@ -100,7 +99,6 @@ fn passes<'a>(
     let kept = words::byte(flags, place) == 1;
     match test {
         Test::Holds => holds,
-        Test::Clear => clear(holds, kept, pre, place),
         Test::Shared => unshared(kept, pre, post, place),
         Test::Held => {
             if kept {
@@ -165,8 +163,35 @@ pub fn set_all<'a>(kept: &'a [u8], list: &'a [u8], value: u8, state: &mut [u8])
     }
 }
 
+// The first condition of a list that makes contact, where the taken conditions are marked.
+fn first_contact<'a>(flags: &'a [u8], state: &'a [u8], taken: &'a [u8], list: &'a [u8]) -> Failing
+    ensures { λ r. ⌜ r ≡ failingOf (failing (clearOf (now (flags .entry)) (marking (now (state .entry))) (marking (now (taken .entry)))) (words (now (list .entry)))) ⌝ }
+{
+    let mut i: usize = 0;
+    while 1 < list.len() - i {
+        let b = words::word(list, i);
+        if clear(flags, state, taken, b as usize) {
+            i = i + 2;
+        } else {
+            return Failing::At(TableCondition(b));
+        }
+    }
+    Failing::Nothing
+}
+
+// The first postcondition that makes contact; the preconditions are marked once, so that none is looked up in their list.
+fn contact<'a>(flags: &'a [u8], state: &'a [u8], pre: &'a [u8], post: &'a [u8]) -> Failing
+    requires { ⌜ length (now state) ≤ 256 ⌝ }
+    ensures { λ r. ⌜ r ≡ failingOf (failing (clearOf (now (flags .entry)) (marking (now (state .entry))) (λ b. mem b (words (now (pre .entry))))) (words (now (post .entry)))) ⌝ }
+{
+    let mut taken = [0u8; 256];
+    set_all(&pre[..0], pre, 1, &mut taken);
+    first_contact(flags, state, &taken, post)
+}
+
 // What stops the event whose record stands at an offset, if anything does.
 fn test_at<'a>(table: &'a [u8], at: usize, state: &'a [u8]) -> Step
+    requires { ⌜ length (now state) ≤ 256 ⌝ }
     ensures { λ r. ⌜ r ≡ stepOf (stopping (recordNet (now (table .entry)) at) (marking (now (state .entry))) 0) ⌝ }
 {
     let flags = records::part_of(table, 4, words::word(table, 0) as usize);
@@ -176,8 +201,8 @@ fn test_at<'a>(table: &'a [u8], at: usize, state: &'a [u8]) -> Step
     if let Failing::At(b) = lacking {
         return Step::Stops(Cause::Lacks(b));
     }
-    let contact = first_failing(Test::Clear, flags, state, pre, post, post);
-    if let Failing::At(b) = contact {
+    let meeting = contact(flags, state, pre, post);
+    if let Failing::At(b) = meeting {
         return Step::Stops(Cause::Meets(b));
     }
     Step::Goes
@@ -185,7 +210,7 @@ fn test_at<'a>(table: &'a [u8], at: usize, state: &'a [u8]) -> Step
 
 // One step of the game: the event whose record stands at an offset is tested, then fired.
 pub fn step_at(table: &[u8], at: usize, state: &mut [u8]) -> Step
-    requires { ⌜ Lent (now state) ⌝ }
+    requires { ⌜ Lent (now state) × (length (now state) ≤ 256) ⌝ }
     ensures answer { λ r. ⌜ r ≡ stepOf (stopping (recordNet (now (table .entry)) at) (marking (now (state .entry))) 0) ⌝ }
     ensures after { λ _. ⌜ now (state .exit) ≡ stepped (stopping (recordNet (now (table .entry)) at) (marking (now (state .entry))) 0) (bytes (length (now (state .entry))) (fire (recordNet (now (table .entry)) at) (marking (now (state .entry))) 0)) (now (state .entry)) ⌝ }
 {

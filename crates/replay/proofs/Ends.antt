@@ -9,7 +9,7 @@ use mathlib.Core.Bool.{Bool, true, false}
 use mathlib.Core.Option.{Option, none, some}
 use mathlib.Core.List.{List, _++_}
 use lib.Dec.{eqb, leb}
-use lib.ListN.{length, getD, take, drop, set, replicate, length-set, length-append, List·getD-append, List·getD-eq-default}
+use lib.ListN.{length, getD, take, drop, set, replicate, length-set, length-append, length-drop, length-replicate, List·getD-append, List·getD-eq-default}
 use lib.Seq.{paste, paste-suc, take-length, getD-append-add, getD-drop, getD-take, length-take-le}
 use Rattle.lists.specs.Lists.{mem}
 use Rattle.lists.proofs.Bools.{is-false}
@@ -23,7 +23,6 @@ use Rattle.refusal.specs.Answer.{need}
 use Rattle.refusal.proofs.Chain.{never-both}
 use Rattle.table.specs.Walk.{judgeOf}
 use Rattle.table.specs.Decoded.{netOf}
-use Rattle.table.proofs.Walk.{accepted}
 use Rattle.table.proofs.Sound.{tabled, accepted-sound}
 use Rattle.records.specs.Records.{conditions}
 use Rattle.model.specs.Lent.{bit, bytes, marking}
@@ -191,8 +190,10 @@ module _ (s : List ℕ) (n : ℕ) (j : judgeOf s ≡ Fine n) (l : List ℕ) (beg
   pub begun-lent : Lent l
   begun-lent = rw begun (lent-bytes 256 (begin (netOf s)))
 
-  pub begun-room : conditions s ≤ length l
-  begun-room = omega (arith, few, conditions-are s n j, ap length begun, length-bytes 256 (begin (netOf s)))
+  pub begun-room : (conditions s ≤ length l) × (length l ≤ 256)
+  begun-room =
+      let long : length l ≡ 256 = ap length begun ∙ length-bytes 256 (begin (netOf s)) in
+      (omega (arith, few, conditions-are s n j, long), omega (arith, long))
 
   pub begun-plays : (r : List ℕ) (answer : Judged) (last : List ℕ) → Plays (netOf s) (marking l) r answer last → Plays (netOf s) (begin (netOf s)) r answer last
   begun-plays r answer last p =
@@ -204,16 +205,17 @@ module _ (s m : List ℕ) (n : ℕ) (j : onMarking s m Fine ≡ Fine n) where
   lent-judged = let k = on-fine s m Fine n j in k .judged ∙ k .goes
 
   pub lent-few : length m ≤ 256
-  lent-few = let k = on-fine s m Fine n j in omega (arith, k .long, accepted s (k .events) (k .judged) .conditionsFine .most)
+  lent-few = on-fine s m Fine n j .few
 
   module _ (l : List ℕ) (copied : l ≡ take (length m) m ++ drop (length m) (replicate 256 0)) where
     pub lent-lent : Lent l
     lent-lent = copied-lent m 256 l copied (on-fine s m Fine n j .lents)
 
-    pub lent-room : conditions s ≤ length l
+    pub lent-room : (conditions s ≤ length l) × (length l ≤ 256)
     lent-room =
         let k = on-fine s m Fine n j in
-        omega (arith, k .long, ap length copied, length-append (take (length m) m) (drop (length m) (replicate 256 0)), length-take-le (length m) m (omega arith))
+        let long : length l ≡ 256 = omega (arith, lent-few, ap length copied, length-append (take (length m) m) (drop (length m) (replicate 256 0)), length-take-le (length m) m (omega arith), length-drop {A = ℕ} (length m) (replicate 256 0), length-replicate {A = ℕ} 256 0) in
+        (omega (arith, k .long, lent-few, long), omega (arith, long))
 
     pub lent-plays : (r : List ℕ) (answer : Judged) (last : List ℕ) → Plays (netOf s) (marking l) r answer last → Plays (netOf s) (marking m) r answer last
     lent-plays r answer last p = subst (λ (x : Marking). Plays (netOf s) x r answer last) (copied-marking m 256 l copied) p

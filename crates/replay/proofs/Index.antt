@@ -4,10 +4,10 @@ use native.Mathlib.Numerals.{add-one}
 use native.Mathlib.Omega.{arith}
 use mathlib.Core.Path.{_≡_, refl, sym, ap, _∙_}
 use mathlib.Core.Logic.{_≢_}
-use mathlib.Core.Bool.{Bool, true, false, _&&_, cond}
+use mathlib.Core.Bool.{Bool, true, false}
 use mathlib.Core.List.{List, []}
 use lib.Dec.{eqb}
-use lib.ListN.{length, getD, set, replicate, length-set, length-replicate, getD-replicate}
+use lib.ListN.{length, getD, set, replicate, length-set}
 use lib.Seq.{getD-set-same, getD-set-other}
 use borrow.Author.Tests.{eqb-true, eqb-false}
 use Rattle.lists.specs.Lists.{mem}
@@ -19,11 +19,10 @@ use Rattle.table.specs.Walk.{judgeOf, offsetFrom, offsetOf}
 use Rattle.table.specs.Decoded.{netOf}
 use Rattle.table.proofs.Walk.{accepted}
 use Rattle.table.proofs.Decoded.{start-read}
-use Rattle.model.specs.Lent.{bit, bytes}
+use Rattle.model.specs.Lent.{bytes}
 use Rattle.game.specs.Steps.{setAll}
 use Rattle.replay.specs.Played.{Indexed}
-use Rattle.model.proofs.Lent.{bytes-are}
-use Rattle.game.proofs.Firing.{length-all, all-at}
+use Rattle.game.proofs.Firing.{put-all}
 
 -- ---- the index
 
@@ -66,19 +65,9 @@ module _ (s : List ℕ) (n : ℕ) (j : judgeOf s ≡ Fine n) (i at c : ℕ) (l :
 
 -- ---- the start
 
-put-start : (bs : List ℕ) (c : ℕ) → setAll [] 1 bs (replicate c 0) ≡ bytes c (λ b. mem b bs)
-put-start bs c =
-    bytes-are _ c _ (length-all [] 1 bs (replicate c 0) ∙ length-replicate {A = ℕ} c 0) (λ i h.
-    all-at [] 1 bs (replicate c 0) i (rw length-replicate h)
-    ∙ ap (cond (mem i bs && true) 1) (getD-replicate {A = ℕ} c i 0 0 h) ∙ one (mem i bs))
-  where
-    one : (t : Bool) → cond (t && true) 1 0 ≡ bit t
-    one true = refl
-    one false = refl
-
 pub start-put : (s : List ℕ) (n : ℕ) → judgeOf s ≡ Fine n → (part l : List ℕ) (at : ℕ) → at ≡ offsetOf s n → part ≡ markingPart s at → l ≡ replicate 256 0
     → setAll [] 1 (words part) l ≡ bytes 256 (begin (netOf s))
 unfolding begin
 start-put s n j part l at isAt isPart zeros =
-    ap (setAll [] 1 (words part)) zeros ∙ put-start (words part) 256
+    ap (setAll [] 1 (words part)) zeros ∙ put-all (words part) 256
     ∙ ap (λ (bs : List ℕ). bytes 256 (λ b. mem b bs)) (ap words (isPart ∙ ap (markingPart s) isAt) ∙ start-read s n j)

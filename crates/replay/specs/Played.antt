@@ -20,12 +20,13 @@ pub record Indexed (s : List ℕ) (n : ℕ) (l : List ℕ) : Type 0 where
   pub long : n ≤ length l
   pub each : (e : ℕ) → e < n → getD l e 0 ≡ offsetOf s e
 
--- A judged table with its index, and bytes to be played on, as many as its conditions or more.
+-- A judged table with its index, and bytes to be played on, as many as its conditions or more, and as many as a table can have
+-- conditions at most.
 pub record Playable (s : List ℕ) (n : ℕ) (offsets l : List ℕ) : Type 0 where
   pub judged : judgeOf s ≡ Fine n
   pub indexed : Indexed s n offsets
   pub lents : Lent l
-  pub room : conditions s ≤ length l
+  pub room : (conditions s ≤ length l) × (length l ≤ 256)
 
 -- A run played from a marking: the answer is 3, then what its steps say, and where it is fine the bytes are those of the end (01,
 -- Refusal numbers).

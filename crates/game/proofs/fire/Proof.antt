@@ -20,7 +20,8 @@ returns c =
 
 step-at-requires : tie.Need-step-at-requires
 step-at-requires c κs =
-    ready-fine (c .before .before .before .before .before .before .before .before .before .args .table .now) (c .before .before .before .before .before .before .before .before .before .args .marking .now) (c .before .before .before .before .before .before .before .before .before .args .event .0) _ (sym (c .before .before .before .before .before .ready .ensures) ∙ c .before .before .before .asked .given .1) .lents
+    let k = ready-fine (c .before .before .before .before .before .before .before .before .before .args .table .now) (c .before .before .before .before .before .before .before .before .before .args .marking .now) (c .before .before .before .before .before .before .before .before .before .args .event .0) _ (sym (c .before .before .before .before .before .ready .ensures) ∙ c .before .before .before .asked .given .1) in
+    (k .lents, k .few)
 
 returns-2 : tie.Need-returns-2
 returns-2 c =

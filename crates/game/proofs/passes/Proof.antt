@@ -7,12 +7,12 @@ use Rattle.game.proofs.passes.Tie as tie
 returns : tie.Need-returns
 unfolding marking
 returns c =
-    simp (c .before .enum-told4 .given .1, ← c .before .before .before .before .byte .ensures, ← c .before .before .before .byte2 .ensures, c .if1 .taken)
+    simp (c .before .enum-told3 .given .1, ← c .before .before .before .before .byte .ensures, ← c .before .before .before .byte2 .ensures, c .if1 .taken)
 
 returns-2 : tie.Need-returns-2
 unfolding marking
 returns-2 c =
-    simp (c .before .before .before .enum-told5 .given .1, ← c .before .before .before .before .before .before .byte .ensures, ← c .before .before .before .before .before .byte2 .ensures, ← c .before .has .ensures, c .before .before .if2 .taken, c .if3 .taken)
+    simp (c .before .before .before .enum-told4 .given .1, ← c .before .before .before .before .before .before .byte .ensures, ← c .before .before .before .before .before .byte2 .ensures, ← c .before .has .ensures, c .before .before .if2 .taken, c .if3 .taken)
 
 returns-3 : tie.Need-returns-3
 unfolding marking
@@ -22,27 +22,22 @@ returns-3 c =
 returns-4 : tie.Need-returns-4
 unfolding marking
 returns-4 c =
-    simp (c .before .enum-told2 .given .1, c .clear .ensures, c .before .before .before .before .byte .ensures, c .before .before .before .byte2 .ensures)
+    simp (c .before .enum-told2 .given .1, c .unshared .ensures, c .before .before .before .byte2 .ensures)
 
 returns-5 : tie.Need-returns-5
 unfolding marking
 returns-5 c =
-    simp (c .before .enum-told3 .given .1, c .unshared .ensures, c .before .before .before .byte2 .ensures)
+    simp (c .before .enum-told3 .given .1, ← c .before .before .before .byte2 .ensures, c .if1 .left)
 
 returns-6 : tie.Need-returns-6
 unfolding marking
 returns-6 c =
-    simp (c .before .enum-told4 .given .1, ← c .before .before .before .byte2 .ensures, c .if1 .left)
+    simp (c .before .before .before .enum-told4 .given .1, ← c .before .before .before .before .before .byte2 .ensures, ← c .before .has .ensures, c .before .before .if2 .taken, c .if3 .left)
 
 returns-7 : tie.Need-returns-7
 unfolding marking
 returns-7 c =
-    simp (c .before .before .before .enum-told5 .given .1, ← c .before .before .before .before .before .byte2 .ensures, ← c .before .has .ensures, c .before .before .if2 .taken, c .if3 .left)
-
-returns-8 : tie.Need-returns-8
-unfolding marking
-returns-8 c =
-    simp (c .before .enum-told5 .given .1, ← c .before .before .before .byte2 .ensures, c .if2 .left)
+    simp (c .before .enum-told4 .given .1, ← c .before .before .before .byte2 .ensures, c .if2 .left)
 
 pub passes-spec : {M : Type 1} → statement M
 passes-spec =
@@ -54,8 +49,6 @@ passes-spec =
     (λ c. search needs)
     (λ c κs. search needs)
     (λ c. search needs)
-    (λ c κs. search needs)
-    (λ c. search needs)
     returns
     (λ c. search needs)
     (λ c κs. search needs)
@@ -64,5 +57,4 @@ passes-spec =
     returns-4
     returns-5
     returns-6
-    returns-7
-    returns-8)
+    returns-7)

@@ -20,7 +20,7 @@ shared-slice-read-step-at c =
 
 step-at-requires : tie.Need-step-at-requires
 step-at-requires c κs =
-    c .before .before .before .before .before .before .pre .lents
+    (c .before .before .before .before .before .before .pre .lents, c .before .before .before .before .before .before .pre .room .1)
 
 returns-2 : tie.Need-returns-2
 returns-2 c =

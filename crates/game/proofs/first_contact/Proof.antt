@@ -1,0 +1,50 @@
+-- `game::first_contact` meets its contract.
+use Prim.Native.Nat.{_-_, _≤_}
+use native.Mathlib.Omega.{arith}
+use mathlib.Core.Path.{_≡_, _∙_, sym, ap}
+use lib.ListN.{length, drop}
+use Rattle.lists.specs.Lists.{failing}
+use Rattle.words.specs.Words.{words}
+use Rattle.model.specs.Lent.{marking}
+use Rattle.game.specs.Steps.{clearOf, failingOf}
+use Rattle.game.proofs.Lists.{failing-here, failing-on, failing-end}
+use borrow.Author.Needs.{needs}
+use Rattle.game.proofs.first_contact.Statement.{statement}
+use Rattle.game.proofs.first_contact.Tie as tie
+
+abbrev Inv-loop : tie.InvT-loop
+Inv-loop flags state taken list i₀ i =
+    (i ≤ length list) × (failing (clearOf flags (marking state) (marking taken)) (words list) ≡ failing (clearOf flags (marking state) (marking taken)) (words (drop i list)))
+
+abbrev μ-loop : tie.MeasureT-loop
+μ-loop flags state taken list i₀ i =
+    length list - i
+
+loop-again : tie.Need-loop-again Inv-loop μ-loop
+loop-again c =
+    (omega arith, c .before .before .before .before .loop .inv .1 ∙ failing-on (c .before .before .before .before .before .before .before .before .before .args .list .now) (c .before .before .before .before .loop .i) _ (c .before .before .before .loop-test .taken) (c .before .before .word .ensures) _ (sym (c .before .clear .ensures) ∙ c .if1 .taken))
+
+returns : tie.Need-returns Inv-loop μ-loop
+returns c =
+    sym (ap failingOf (c .before .before .before .before .loop .inv .1 ∙ failing-here (c .before .before .before .before .before .before .before .before .before .args .list .now) (c .before .before .before .before .loop .i) _ (c .before .before .before .loop-test .taken) (c .before .before .word .ensures) _ (sym (c .before .clear .ensures) ∙ c .if1 .left)))
+
+returns-2 : tie.Need-returns-2 Inv-loop μ-loop
+returns-2 c =
+    sym (ap failingOf (c .before .loop .inv .1 ∙ failing-end (c .before .before .before .before .before .before .args .list .now) (c .before .loop .i) (c .loop-test .left) _))
+
+pub first-contact-spec : {M : Type 1} → statement M
+first-contact-spec =
+    tie.close
+    (tie.spec
+    Inv-loop
+    μ-loop
+    (λ c. search needs)
+    (λ c. search needs)
+    (λ c κs. search needs)
+    (λ c. search needs)
+    (λ c κs. search needs)
+    (λ c. search needs)
+    (λ c. search needs)
+    loop-again
+    returns
+    returns-2)
