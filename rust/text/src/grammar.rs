@@ -198,6 +198,9 @@ impl Parser {
         self.skip_lines();
         let mut elements = Vec::new();
         while !self.took(&Piece::Close) {
+            if self.on_new_line() && (self.at_statement() || *self.piece() == Piece::End) {
+                return self.unexpected(&format!("`}}` for the `{{` at {place}"));
+            }
             elements.push(self.element(Form::Reference)?);
             if !self.separated() && *self.piece() != Piece::Close {
                 return self.unexpected("`,` or `}`");
