@@ -181,11 +181,15 @@ pub fn tokens(text: &str) -> Result<Vec<Token>, Trouble> {
     while let Some(first) = walk.peek() {
         let place = walk.place;
         match first {
+            '\r' if walk.peek_second() != Some('\n') => {
+                let found = "a carriage return alone";
+                return trouble(place, "a line feed at the end of the line", found);
+            }
             ' ' | '\t' | '\r' => {
                 walk.take();
             }
             '#' => {
-                walk.take_while(|c| c != '\n');
+                walk.take_while(|c| !matches!(c, '\n' | '\r'));
             }
             _ => {
                 let piece = walk.piece(first)?;

@@ -134,6 +134,22 @@ fn a_part_that_is_missing_is_told() {
 }
 
 #[test]
+fn a_carriage_return_alone_hides_no_line() {
+    for (text, place) in [
+        (
+            "conditions: a # one\rx: {a} -> {}\nstart: {}",
+            "line 1, column 20",
+        ),
+        ("conditions: a\rstart: {}", "line 1, column 14"),
+        ("conditions: a\r\nstart: {}\r", "line 2, column 10"),
+    ] {
+        let said = "expected a line feed at the end of the line, found a carriage return alone";
+        assert_eq!(told(text.as_bytes()), format!("{place}: {said}"));
+    }
+    assert_eq!(table("conditions: a # one\r\nstart: {a}\r\n").start, [0]);
+}
+
+#[test]
 fn troubles_of_conditions() {
     for (text, expected) in [
         ("conditions a", "column 12: expected `:`, found `a`"),
