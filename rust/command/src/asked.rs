@@ -29,8 +29,10 @@ dovetrellis: net tables with persistent conditions
                                   condition with its condition, marker and user
   dovetrellis pack FILE [-o FOLDER]
                                   turn a text table into records: NAME.net.bin, and
-                                  NAME.RUN.run.bin for each run
-  dovetrellis show TABLE [RUN...] write a table, and runs of it, as text that packs to the same bytes
+                                  NAME.RUN.run.bin for each run, in FOLDER or else right here. They
+                                  are written first and judged then, so refused ones are there too
+  dovetrellis show TABLE [RUN...] write a table, and runs of it, as text that packs to the same bytes.
+                                  RUN is a file; the runs of a text table are written anyway
   dovetrellis build [WHAT...]     build 'library' and 'list' now; other commands build what they need
   dovetrellis help                this
 
