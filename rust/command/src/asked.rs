@@ -66,6 +66,9 @@ fn asked_pack(words: &[String]) -> Stopped<Asked> {
     while let Some(word) = rest.next() {
         if word == "-o" {
             let missing = || Stop::Use("a folder is missing after -o".to_string());
+            if folder.is_some() {
+                return Err(Stop::Use("-o is there twice".to_string()));
+            }
             folder = Some(rest.next().ok_or_else(missing)?.clone());
         } else {
             others.push(word.clone());

@@ -16,10 +16,10 @@ const MOST_STEPS: usize = 4096;
 /// Writes a file and says so.
 fn write(folder: &str, name: &str, bytes: &[u8], out: &mut impl Write) -> Stopped<()> {
     let path = Path::new(folder).join(name);
+    let no_folder = |error| Stop::Failed(format!("{folder} cannot be a folder: {error}"));
+    fs::create_dir_all(folder).map_err(no_folder)?;
     let failed = |error| Stop::Failed(format!("{}: {error}", path.display()));
-    fs::create_dir_all(folder)
-        .and_then(|()| fs::write(&path, bytes))
-        .map_err(failed)?;
+    fs::write(&path, bytes).map_err(failed)?;
     Ok(writeln!(out, "{} ({} bytes)", path.display(), bytes.len())?)
 }
 

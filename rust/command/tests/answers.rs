@@ -90,6 +90,7 @@ fn help_and_wrong_use() {
         (&["judge", "net-a.txt", "x"], "'x' is one word too many"),
         (&["list", "a", "b", "c"], "'c' is one word too many"),
         (&["pack", "net-a.txt", "-o"], "a folder is missing after -o"),
+        (&["pack", "net-a.txt", "-o", "a", "-o", "b"], "-o is there twice"),
         (&["list", "limits-over.txt"], "limits-over.txt has no run, so RUN must be given"),
         (&["list", "net-a.txt", "rond"], "'rond' is neither a run nor a file; the runs of net-a.txt are: round, empty, early, unknown"),
         (&["show", "net-a.txt", "net-b.txt"], "net-b.txt is text; a run is a record file, or the name of a run in a text table"),
@@ -97,6 +98,8 @@ fn help_and_wrong_use() {
         assert_eq!(ends(words, 2), format!("dovetrellis: {said}\n'dovetrellis help' tells the commands\n"));
     }
     assert!(ends(&["judge", "nothing.txt"], 2).starts_with("dovetrellis: nothing.txt: "));
+    assert!(ends(&["pack", "net-a.txt", "-o", "net-b.txt"], 2)
+        .starts_with("dovetrellis: net-b.txt cannot be a folder: "));
 }
 
 #[test]
