@@ -106,7 +106,9 @@ struct dovetrellis_answer dovetrellis_replay(const uint8_t *table, size_t table_
                                              uint8_t *end, size_t end_length);
 
 /*
- * Steps k and k + 1 of the lent run change places; only those two numbers are written. Any k may be asked.
+ * Steps k and k + 1 of the lent run change places; only those two numbers are written. Any k may be asked. The steps may change
+ * places where their events differ and touch no ordinary condition both, and where each persistent condition that the second reads
+ * or that both mark held before step k.
  * Refusals: the table's, 3 at 0, 10 to 12 at the step, 10 at k (there is no step k + 1), 17 at k.
  */
 struct dovetrellis_answer dovetrellis_exchange(const uint8_t *table, size_t table_length, uint16_t *run, size_t run_length,
