@@ -1,18 +1,17 @@
 -- Demand 1 for every call: it is worked, or refused with a number of its list, and then its lent output, which stands here as the
--- memory at exit, is as it was at entry.
+-- memory at exit, is as it was at entry. The reader's `record` is left out, of whose contract no reading is shown (docs/DECISIONS.md, 44).
 use mathlib.Core.Path.{_≡_, sym, ap, _∙_}
 use mathlib.Core.Bool.{true, false}
 use mathlib.Core.List.{List, _∷_}
 use Prim.Native.Nat.{ℕ}
-use lib.Dec.{T, eqb}
+use lib.Dec.{T}
 use lib.ListN.{length}
 use denote.Ref.{now}
 use Rattle.lists.specs.Lists.{mem}
-use Rattle.lists.proofs.Bools.{or-right}
 use Rattle.refusal.specs.declared.Refusal.{Refusal}
 use Rattle.refusal.specs.declared.Judged.{Judged}
-use Rattle.refusal.specs.declared.Judged.the-variants.{Fine, Refused}
-use Rattle.refusal.specs.Answer.{numberOf, written}
+use Rattle.refusal.specs.declared.Judged.the-variants.{Refused}
+use Rattle.refusal.specs.Answer.{written}
 use Rattle.table.specs.Decoded.{netOf}
 use Rattle.parts.specs.Asked.{askedOf, askedConditionOf, persistenceNumber}
 use Rattle.parts.proofs.Told.{persistence-number}
@@ -30,10 +29,11 @@ use Rattle.firing.specs.Calls.{unfoldedFireOf, unfoldedFiredOf}
 use Rattle.lift.specs.Calls.{liftOf, liftedOf}
 use Rattle.ends.specs.Calls.{liftEndOf, liftEndedOf, unfoldedReplayOf, unfoldedReplayedOf}
 use Rattle.project.specs.Calls.{projectOf, projectedOf}
+use Rattle.reader.specs.Read.{nextOf}
 use Rattle.asking.specs.Calls.{preconditionsOf, preconditionsInto, postconditionsOf, postconditionsInto, startOf, startInto}
 use Rattle.listing.specs.Calls.{pieceOf, filesOf}
 use Rattle.promises.specs.Refused.{ofList, ofTableStart, ofFiles, ofPiece, ofNumbering, ofListing, ofStart, ofUnfoldedFiring, ofLift, ofProject, ofTable, ofAsking, ofFiring, ofReplay, ofReplayFrom, ofExchange, ofUnfolding, ofReading, ofWriting, listed, Refusing}
-use Rattle.promises.proofs.Refused.{listed-need, judge-listed, judged-listed, firing-listed, replay-listed, replay-from-listed, exchange-listed, record-listed, preconditions-listed, postconditions-listed, start-listed, files-listed, piece-listed, unfolding-of-listed, listing-listed, unfolded-start-listed, unfolded-fire-listed, lift-listed, lift-end-listed, project-listed, unfolded-replay-listed, read-listed, write-listed}
+use Rattle.promises.proofs.Refused.{listed-need, zero-listed, judge-listed, judged-listed, firing-listed, replay-listed, replay-from-listed, exchange-listed, record-listed, preconditions-listed, postconditions-listed, start-listed, files-listed, piece-listed, unfolding-of-listed, listing-listed, unfolded-start-listed, unfolded-fire-listed, lift-listed, lift-end-listed, project-listed, unfolded-replay-listed, read-listed, write-listed}
 use Rattle.promises.proofs.Told.{condition-number, event-answer}
 use Rattle.table.proofs.judge.Reads as judge
 use Rattle.table.proofs.condition_count.Reads as condition-count
@@ -58,6 +58,7 @@ use Rattle.conditions.proofs.ordinary_number.Reads as ordinary-number
 use Rattle.conditions.proofs.copy_number.Reads as copy-number
 use Rattle.conditions.proofs.condition_origin.Reads as condition-origin
 use Rattle.reader.proofs.record_at.Reads as record-at
+use Rattle.reader.proofs.second.Reads as second
 use Rattle.asking.proofs.preconditions.Reads as preconditions
 use Rattle.asking.proofs.postconditions.Reads as postconditions
 use Rattle.asking.proofs.start.Reads as table-start
@@ -79,7 +80,7 @@ leaves-refused numbers r answer new old out e t f = record { number = rw e t; ke
     kept : {x : Refusal} → answer ≡ Refused x → leaves answer new old ≡ old
     kept g = rw g
 
-written-refused : (numbers : List ℕ) (r answer : Judged) (new old out : List ℕ) → r ≡ answer → T (listed numbers answer) → out ≡ written answer new old → Refusing numbers r old out
+pub written-refused : (numbers : List ℕ) (r answer : Judged) (new old out : List ℕ) → r ≡ answer → T (listed numbers answer) → out ≡ written answer new old → Refusing numbers r old out
 written-refused numbers r answer new old out e t f = record { number = rw e t; kept = λ x g. f ∙ kept (sym e ∙ g) }
   where
     kept : {x : Refusal} → answer ≡ Refused x → written answer new old ≡ old
@@ -91,11 +92,6 @@ late-refused numbers r answer new old out e t f = record { number = rw e t; kept
   where
     kept : {x : Refusal} → r ≡ Refused x → written r new old ≡ old
     kept g = rw g
-
--- the number of an answer that is no `Judged`: 0 where nothing is refused
-zero-listed : (l : List ℕ) (a : Judged) {number : ℕ} → number ≡ numberOf a → T (listed l a) → T (mem number (0 ∷ l))
-zero-listed l (Fine k) e h = rw e tt
-zero-listed l (Refused x) e h = rw e (or-right (eqb (x .number) 0) (mem (x .number) l) h)
 
 -- ---- a table asked
 
@@ -201,6 +197,9 @@ condition-origin-refused κs a r x h =
 
 pub record-at-refused : (κs : _) (a : _) (r : _) (x : _) → record-at.Learnt κs a r x → T (listed ofTable r)
 record-at-refused κs a r x h = rw h (record-listed (now (a .0)) (a .1 .0))
+
+pub second-refused : (κs : _) (a : _) (r : _) (x : _) → second.Learnt κs a r x → T (listed ofTable r)
+second-refused κs a r x h = rw h (record-listed (now (a .0)) (nextOf (now (a .0)) 0))
 
 pub preconditions-refused : (κs : _) (a : _) (r : _) (x : _) → preconditions.Learnt κs a r x → Refusing ofList r (now (a .1 .1 .0)) (now (x .1 .1 .0))
 unfolding preconditionsInto

@@ -3,6 +3,8 @@ pub mod Game
 pub mod Across
 pub mod Told
 pub mod Kept
+pub mod KeptOutward
+pub mod KeptInner
 pub mod One
 pub mod OneOutward
 pub mod OneInner

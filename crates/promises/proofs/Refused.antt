@@ -1,11 +1,13 @@
 -- The numbers that the answers of the calls may be refused with, link by link of their chains.
+use mathlib.Core.Path.{_≡_}
 use mathlib.Core.Bool.{Bool, true, false, cond}
 use mathlib.Core.Option.{Option, none, some}
-use mathlib.Core.List.{List}
+use mathlib.Core.List.{List, _∷_}
 use Prim.Native.Nat.{ℕ, zero, suc, _+_, _*_, _/_, _%_}
 use lib.Dec.{T, leb, ltb, eqb}
 use lib.ListN.{length}
 use Rattle.lists.specs.Lists.{mem, all, fits}
+use Rattle.lists.proofs.Bools.{or-right}
 use Rattle.lists.proofs.Tests.{all-at, all-of}
 use Rattle.model.specs.Net.{Net, begin, Stop, unknown, lacks, meets, stopping}
 use Rattle.model.specs.Runs.{Played, ends, refused, replay, opening, State}
@@ -16,6 +18,7 @@ use Rattle.model.specs.Across.{Answer, run, refusal, other, numberOf, unless, s
 use Rattle.model.specs.Across as model
 use Rattle.refusal.specs.declared.Judged.{Judged}
 use Rattle.refusal.specs.declared.Judged.the-variants.{Fine, Refused}
+use Rattle.refusal.specs.Answer as answer
 use Rattle.refusal.specs.Answer.{refusedAt, need, andThen, fitting}
 use Rattle.words.specs.Words.{words, bits, countIn}
 use Rattle.records.specs.declared.Header.{Header}
@@ -55,7 +58,7 @@ module _ (l : List ℕ) where
   listed-then (Fine v) f h t = t v
   listed-then (Refused x) f h t = h
 
-  listed-cond : (b : Bool) (a z : Judged) → T (listed l a) → T (listed l z) → T (listed l (cond b a z))
+  pub listed-cond : (b : Bool) (a z : Judged) → T (listed l a) → T (listed l z) → T (listed l (cond b a z))
   listed-cond true a z h t = h
   listed-cond false a z h t = t
 
@@ -85,9 +88,14 @@ pub listed-more : (k l : List ℕ) (a : Judged) → T (all (λ x. mem x l) k) �
 listed-more k l (Fine v) h t = tt
 listed-more k l (Refused x) h t = all-at (λ y. mem y l) k h (x .number) t
 
+-- the number of an answer that is no `Judged`: 0 where nothing is refused
+pub zero-listed : (l : List ℕ) (a : Judged) {number : ℕ} → number ≡ answer.numberOf a → T (listed l a) → T (mem number (0 ∷ l))
+zero-listed l (Fine k) e h = rw e tt
+zero-listed l (Refused x) e h = rw e (or-right (eqb (x .number) 0) (mem (x .number) l) h)
+
 -- ---- a table
 
-conditions-listed : (s : List ℕ) → T (listed ofTable (conditionsOf s))
+pub conditions-listed : (s : List ℕ) → T (listed ofTable (conditionsOf s))
 unfolding conditionsOf
 conditions-listed s =
     listed-whole ofTable (headerOf s 0) 0 _ tt (λ kind len.
@@ -104,7 +112,7 @@ lists-listed s at next =
     (listed-need ofTable (leb 1 (preCount s at + postCount s at)) 7 at _ tt
     (listed-need ofTable (leb (countIn (flags s) (words (prePart s at))) 16) 8 at _ tt tt)))
 
-event-listed : (s : List ℕ) (at : ℕ) → T (listed ofTable (eventOf s at))
+pub event-listed : (s : List ℕ) (at : ℕ) → T (listed ofTable (eventOf s at))
 unfolding eventOf
 event-listed s at =
     listed-whole ofTable (headerOf s at) at _ tt (λ kind len.
@@ -112,7 +120,7 @@ event-listed s at =
     (listed-need ofTable (leb 4 len) 3 at _ tt
     (listed-need ofTable (eqb len (4 + 2 * (preCount s at + postCount s at))) 3 at _ tt (lists-listed s at (at + 4 + len)))))
 
-marking-listed : (s : List ℕ) (at : ℕ) → T (listed ofTable (markingOf s at))
+pub marking-listed : (s : List ℕ) (at : ℕ) → T (listed ofTable (markingOf s at))
 unfolding markingOf
 marking-listed s at =
     listed-whole ofTable (headerOf s at) at _ tt (λ kind len.
@@ -154,11 +162,11 @@ steps-listed l k (some unknown) a b c = a
 steps-listed l k (some (lacks x)) a b c = b
 steps-listed l k (some (meets x)) a b c = c
 
-stuck-listed : (l : List ℕ) (p : Played) → T (mem 10 l) → T (mem 11 l) → T (mem 12 l) → T (listedIf l (stuck p))
+pub stuck-listed : (l : List ℕ) (p : Played) → T (mem 10 l) → T (mem 11 l) → T (mem 12 l) → T (listedIf l (stuck p))
 stuck-listed l (ends s) a b c = tt
 stuck-listed l (refused v k) a b c = steps-listed l k (some v) a b c
 
-long-listed : (l r : List ℕ) → T (mem 3 l) → T (listedIf l (tooLong r))
+pub long-listed : (l r : List ℕ) → T (mem 3 l) → T (listedIf l (tooLong r))
 unfolding tooLong
 long-listed l r h = go (leb (length r) mostSteps)
   where
@@ -166,7 +174,7 @@ long-listed l r h = go (leb (length r) mostSteps)
     go true = tt
     go false = h
 
-unfolding-listed : (l : List ℕ) (n : Net) → T (mem 13 l) → T (mem 14 l) → T (listedIf l (unfoldingRefused n))
+pub unfolding-listed : (l : List ℕ) (n : Net) → T (mem 13 l) → T (mem 14 l) → T (listedIf l (unfoldingRefused n))
 unfolding unfoldingRefused
 unfolding-listed l n a z = go (lowestIdle n) (within n)
   where

@@ -9,6 +9,7 @@ use Rattle.refusal.specs.declared.Refusal.{Refusal}
 use Rattle.refusal.specs.declared.Judged.{Judged}
 use Rattle.refusal.specs.declared.Judged.the-variants.{Fine, Refused}
 use Rattle.refusal.specs.Answer.{numberOf}
+use Rattle.outward.specs.declared.Answer.{Answer}
 
 -- ---- numbers by what is asked
 
@@ -27,6 +28,18 @@ ofList = ofAsking ++ 16 ∷ []
 -- The table's start into a lent output: 16 beside the table's (01, Refusal numbers).
 abbrev pub ofTableStart : List ℕ
 ofTableStart = ofTable ++ 16 ∷ []
+
+-- A lent marking of the table: 18 beside the table's (01, Refusal numbers).
+abbrev pub ofLent : List ℕ
+ofLent = ofTable ++ 18 ∷ []
+
+-- One step (01, Refusal numbers).
+abbrev pub ofStep : List ℕ
+ofStep = 10 ∷ 11 ∷ 12 ∷ []
+
+-- A run without its table: 3 beside its steps' (01, Refusal numbers).
+abbrev pub ofSteps : List ℕ
+ofSteps = 3 ∷ ofStep
 
 -- Concession and firing: a lent marking with 18, an event with 10, 11 and 12 (01, Refusal numbers).
 abbrev pub ofFiring : List ℕ
@@ -99,3 +112,8 @@ listed numbers (Refused refusal) = mem (numberOf (Refused refusal)) numbers
 pub record Refusing (numbers : List ℕ) (answer : Judged) (old new : List ℕ) : Type 0 where
   pub number : T (listed numbers answer)
   pub kept : (refusal : Refusal) → answer ≡ Refused refusal → new ≡ old
+
+-- A call for C tells 0 or one of these numbers, and where it is not 0 what C lent stays as it was (01, Refusal numbers: demand 1).
+pub record Telling (numbers : List ℕ) (answer : Answer) (Kept : Type 0) : Type 0 where
+  pub number : T (mem (answer .number) (0 ∷ numbers))
+  pub kept : (answer .number ≡ 0 → ⊥) → Kept
