@@ -4,16 +4,19 @@ use native.Mathlib.Numerals.{add-one}
 use native.Mathlib.Omega.{arith}
 use native.Mathlib.Decide.{decLe}
 use native.Mathlib.Nat.{zero-mul, suc-mul, min-eq-left, min-eq-right}
-use mathlib.Core.Path.{_≡_, refl, ap, _∙_}
+use mathlib.Core.Path.{_≡_, refl, sym, ap, _∙_}
 use mathlib.Core.List.{List, [], _∷_, map}
-use mathlib.Core.Bool.{Bool, true, false, cond}
-use lib.ListN.{length, getD, take, drop, length-drop}
-use lib.Seq.{take-all}
-use Rattle.lists.specs.Lists.{index, keep}
+use mathlib.Core.Bool.{Bool, true, false, _||_, cond}
+use lib.Dec.{T, eqb}
+use lib.ListN.{length, getD, take, drop, length-drop, drop-of-length-le}
+use lib.Seq.{take-all, drop-cons}
+use borrow.Author.Tests.{eq-eqb, ne-eqb}
+use Rattle.lists.specs.Lists.{any, index, keep}
+use Rattle.lists.proofs.Bools.{T-of, not-true, or-left, or-right, or-none}
 use Rattle.words.specs.Words.{wordAt, words}
 use Rattle.words.proofs.Laws.{words-next, words-end}
 use Rattle.records.specs.Records.{part, conditions}
-use Rattle.layout.specs.Colours.{flaggedIn, flagged, radices, product, capped}
+use Rattle.layout.specs.Colours.{flaggedIn, radicesIn, radices, product, capped}
 
 -- a count that is capped already serves in a capped product
 pub capped-mul : (a b : ℕ) → capped (a * capped b) ≡ capped (a * b)
@@ -70,26 +73,54 @@ front t (a ∷ b ∷ r) = go (t (a + 256 * b)) refl (front t r)
 
 -- ---- the product down a list whose first persistent condition stands at place i
 
-module _ (s markers pre bytes : List ℕ) (n i : ℕ) (w : n ≡ conditions s) (f : bytes ≡ part s 4 n) (e : i ≡ 2 * index (flaggedIn bytes) (words pre)) where
-  at-front : Front (flagged s) pre i
-  at-front =
-      rw (e ∙ ap (λ (x : List ℕ). 2 * index (flaggedIn x) (words pre)) (f ∙ ap (λ (k : ℕ). part s 4 k) w))
-      (front (flagged s) pre)
+module _ (bytes markers pre : List ℕ) (i : ℕ) (e : i ≡ 2 * index (flaggedIn bytes) (words pre)) where
+  at-front : Front (flaggedIn bytes) pre i
+  at-front = rw e (front (flaggedIn bytes) pre)
 
   pub front-within : i ≤ length pre
   front-within = at-front .within
 
   -- ordinary conditions at the front add no radix
-  front-radices : radices s markers (words pre) ≡ radices s markers (words (drop i pre))
+  front-radices : radicesIn bytes markers (words pre) ≡ radicesIn bytes markers (words (drop i pre))
   front-radices = ap (map (λ b. getD markers b 0)) (at-front .kept)
 
-  pub product-none : length pre - i < 2 → 1 ≡ capped (product (radices s markers (words pre)))
+  pub product-none : length pre - i < 2 → 1 ≡ capped (product (radicesIn bytes markers (words pre)))
   unfolding product
   product-none h = rw (front-radices, words-end pre i (omega arith))
 
   pub product-more : 2 ≤ length pre - i → (b : ℕ) → b ≡ wordAt pre i
-      → product (radices s markers (words pre)) ≡ getD markers b 0 * product (radices s markers (words (take (length pre - (i + 2)) (drop (i + 2) pre))))
+      → product (radicesIn bytes markers (words pre)) ≡ getD markers b 0 * product (radicesIn bytes markers (words (take (length pre - (i + 2)) (drop (i + 2) pre))))
   unfolding product
   product-more h b z =
-      let p : flagged s b ≡ true = rw z (at-front .passes (omega arith)) in
+      let p : flaggedIn bytes b ≡ true = rw z (at-front .passes (omega arith)) in
       rw (part-from, front-radices, words-next pre i (omega arith), ← z, p)
+
+-- ---- no condition is persistent
+
+module _ (bytes : List ℕ) (i : ℕ) (h : i < length bytes) where
+  pub some-here : 1 ≡ getD bytes i 0 → (found : Bool) → (found || any (eqb 1) (drop i bytes)) ≡ true
+  some-here p true = refl
+  some-here p false = rw (drop-cons bytes i 0 h, eq-eqb 1 (getD bytes i 0) p)
+
+  pub some-later : (1 ≡ getD bytes i 0 → ⊥) → any (eqb 1) (drop i bytes) ≡ any (eqb 1) (drop (i + 1) bytes)
+  some-later p = rw (add-one, drop-cons bytes i 0 h, ne-eqb 1 (getD bytes i 0) p)
+
+pub some-end : (bytes : List ℕ) (i : ℕ) → length bytes ≤ i → (found : Bool) → (found || any (eqb 1) (drop i bytes)) ≡ found
+some-end bytes i h found = rw (drop-of-length-le bytes h) (or-none found)
+
+none-flagged : (bytes : List ℕ) → (T (any (eqb 1) bytes) → ⊥) → (b : ℕ) → flaggedIn bytes b ≡ false
+none-flagged [] n b = refl
+none-flagged (x ∷ bytes) n zero = ne-eqb x 1 (λ z. n (or-left (eqb 1 x) (any (eqb 1) bytes) (T-of (eqb 1 x) (eq-eqb 1 x (sym z)))))
+none-flagged (x ∷ bytes) n (suc b) = none-flagged bytes (λ t. n (or-right (eqb 1 x) (any (eqb 1) bytes) t)) b
+
+none-kept : (t : ℕ → Bool) (l : List ℕ) → ((b : ℕ) → t b ≡ false) → keep t l ≡ []
+none-kept t [] h = refl
+none-kept t (x ∷ l) h = rw (h x) (none-kept t l h)
+
+pub product-plain : (bytes markers l : List ℕ) → any (eqb 1) bytes ≡ false → 1 ≡ capped (product (radicesIn bytes markers l))
+unfolding product
+product-plain bytes markers l e = rw (none-kept (flaggedIn bytes) l (none-flagged bytes (not-true (any (eqb 1) bytes) e)))
+
+-- what is had by a table's bytes is had by the table
+pub product-read : (s markers l bytes : List ℕ) (n : ℕ) → n ≡ conditions s → bytes ≡ part s 4 n → {r : ℕ} → r ≡ capped (product (radicesIn bytes markers l)) → r ≡ capped (product (radices s markers l))
+product-read s markers l bytes n w f t = t ∙ ap (λ (x : List ℕ). capped (product (radicesIn x markers l))) (f ∙ ap (λ (k : ℕ). part s 4 k) w)

@@ -22,9 +22,13 @@ flaggedIn bytes b = eqb (getD bytes b 0) 1
 abbrev pub flagged : List ℕ → ℕ → Bool
 flagged s b = flaggedIn (flags s) b
 
--- The numbers of markers of the persistent ones in a list, one for each (01, Unfolding).
+-- The numbers of markers of the persistent ones in a list, one for each, by the conditions' bytes (01, Unfolding).
+abbrev pub radicesIn : List ℕ → List ℕ → List ℕ → List ℕ
+radicesIn bytes markers l = map (λ b. getD markers b 0) (keep (flaggedIn bytes) l)
+
+-- The same of a table (01, Unfolding).
 abbrev pub radices : List ℕ → List ℕ → List ℕ → List ℕ
-radices s markers l = map (λ b. getD markers b 0) (keep (flagged s) l)
+radices s markers l = radicesIn (flags s) markers l
 
 -- The product of a list of numbers (01, Unfolding).
 unfoldable pub product : List ℕ → ℕ

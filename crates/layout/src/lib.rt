@@ -2,13 +2,14 @@
 // refuse with 13 and 14.
 use refusal::Judged;
 ghost use mathlib.Core.Path.{_≡_};
-ghost use Prim.Native.Nat.{_*_, _≤_};
+ghost use Prim.Native.Nat.{_+_, _*_, _≤_, _<_};
+ghost use lib.Dec.{eqb};
 ghost use lib.ListN.{length};
-ghost use Rattle.lists.specs.Lists.{index};
+ghost use Rattle.lists.specs.Lists.{any, index};
 ghost use Rattle.words.specs.Words.{words};
 ghost use Rattle.table.specs.Decoded.{netOf};
 ghost use Rattle.records.specs.Records.{conditions};
-ghost use Rattle.layout.specs.Colours.{flaggedIn, flagged, radices, product, capped, widthAt, idleAt, eventsOf};
+ghost use Rattle.layout.specs.Colours.{flaggedIn, flagged, radicesIn, radices, product, capped, widthAt, idleAt, eventsOf};
 ghost use Rattle.layout.specs.Laid.{Low, Sums, Counted, LaidOut};
 
 // Whether condition b is persistent.
@@ -44,18 +45,47 @@ fn first_persistent<'a>(flags: &'a [u8], list: &'a [u8]) -> usize
     i
 }
 
-// How many colours an event has: a recursion down its persistent preconditions, capped above the limit.
-pub fn colours<'a>(table: &'a [u8], markers: &[u32], pre: &'a [u8]) -> u32
-    ensures { λ r. ⌜ r ≡ capped (product (radices (now (table .entry)) (now (markers .entry)) (words (now (pre .entry))))) ⌝ }
+// Whether some condition is persistent.
+fn some_persistent(flags: &[u8]) -> bool
+    ensures { λ r. ⌜ r ≡ any (eqb 1) (now (flags .entry)) ⌝ }
 {
-    let n = words::word(table, 0) as usize;
-    let i = first_persistent(records::part_of(table, 4, n), pre);
+    let mut found = false;
+    let mut i: usize = 0;
+    while i < flags.len() {
+        if 1 == flags[i] {
+            found = true;
+        }
+        i = i + 1;
+    }
+    found
+}
+
+// The colours that a list of preconditions leaves: a recursion down its persistent ones, capped above the limit.
+fn colours_down<'a>(flags: &'a [u8], markers: &[u32], pre: &'a [u8]) -> u32
+    ensures { λ r. ⌜ r ≡ capped (product (radicesIn (now (flags .entry)) (now (markers .entry)) (words (now (pre .entry))))) ⌝ }
+{
+    let i = first_persistent(flags, pre);
     if pre.len() - i < 2 {
         return 1;
     }
     let b = words::word_within(pre, i) as usize;
-    let rest = colours(table, markers, &pre[i + 2..]);
+    let rest = colours_down(flags, markers, &pre[i + 2..]);
     capped_product(tally::number(markers, b), rest)
+}
+
+// How many colours an event has; a list that is longer than the conditions' bytes is walked only if one of them is persistent.
+pub fn colours<'a>(table: &'a [u8], markers: &[u32], pre: &'a [u8]) -> u32
+    ensures { λ r. ⌜ r ≡ capped (product (radices (now (table .entry)) (now (markers .entry)) (words (now (pre .entry))))) ⌝ }
+{
+    let n = words::word(table, 0) as usize;
+    let flags = records::part_of(table, 4, n);
+    if flags.len() < pre.len() {
+        if some_persistent(flags) {
+            return colours_down(flags, markers, pre);
+        }
+        return 1;
+    }
+    colours_down(flags, markers, pre)
 }
 
 // Whether an event with these lists touches nothing once unfolded.
