@@ -24,9 +24,9 @@ use Rattle.replay.specs.Calls.{begunAt}
 use Rattle.across.specs.Prepared.{preparedOf}
 use Rattle.promises.specs.Refused.{ofTable, ofLent, ofStep, ofSteps, ofUnfolding, listed, Refusing}
 use Rattle.promises.proofs.Refused.{listed-need, listed-passing, conditions-listed, event-listed, marking-listed, judged-listed, lent-listed, stuck-listed, long-listed, unfolding-listed, unfolding-of-listed}
-use Rattle.records.proofs.conditions_record.Reads as conditions-record
-use Rattle.records.proofs.event_record.Reads as event-record
-use Rattle.records.proofs.marking_record.Reads as marking-record
+use Rattle.rules.proofs.conditions_record.Reads as conditions-record
+use Rattle.rules.proofs.event_record.Reads as event-record
+use Rattle.rules.proofs.marking_record.Reads as marking-record
 use Rattle.game.proofs.judge_lent.Reads as judge-lent
 use Rattle.game.proofs.answered.Reads as answered
 use Rattle.game.proofs.step_at.Reads as step-at

@@ -23,7 +23,8 @@ use Rattle.refusal.specs.Answer.{refusedAt, need, andThen, fitting}
 use Rattle.words.specs.Words.{words, bits, countIn}
 use Rattle.records.specs.declared.Header.{Header}
 use Rattle.records.specs.declared.Header.the-variants.{Short, Whole}
-use Rattle.records.specs.Records.{part, headerOf, whenWhole, conditions, flags, conditionsOf, preCount, postCount, prePart, postPart, listsOf, eventOf, markingOf}
+use Rattle.records.specs.Records.{part, headerOf, whenWhole, conditions, flags, preCount, postCount, prePart, postPart}
+use Rattle.rules.specs.Rules.{conditionsOf, listsOf, eventOf, markingOf}
 use Rattle.table.specs.Walk.{kindIs, lastOf, eventsFrom, judgeOf, offsetOf}
 use Rattle.table.specs.Decoded.{netOf}
 use Rattle.game.specs.Lent.{lent, firstAbove}

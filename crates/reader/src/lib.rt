@@ -15,16 +15,16 @@ pub fn record_at(table: &[u8], at: usize) -> Judged
     ensures { λ r. ⌜ r ≡ recordOf (now (table .entry)) at ⌝ }
 {
     if at == 0 {
-        return records::conditions_record(table);
+        return rules::conditions_record(table);
     }
     if table::is_event(table, at) {
         if at < table::offset(table, 256) {
-            records::event_record(table, at)
+            rules::event_record(table, at)
         } else {
             refusal::refused(6, at)
         }
     } else {
-        records::marking_record(table, at)
+        rules::marking_record(table, at)
     }
 }
 

@@ -1,4 +1,2 @@
 pub mod Parts
 pub mod Headers
-pub mod Fine
-pub mod Made

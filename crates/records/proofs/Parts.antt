@@ -1,16 +1,12 @@
 -- A part of a slice as the code makes it, and where it lies.
-use Prim.Native.Nat.{ℕ, _+_, _-_, _*_, _≤_, _<_}
+use Prim.Native.Nat.{ℕ, _+_, _-_, _≤_, _<_}
 use native.Mathlib.Nat.{add-sub-cancel-left}
 use native.Mathlib.Omega.{arith}
 use mathlib.Core.Path.{_≡_, sym, _∙_}
 use mathlib.Core.List.{List, []}
-use lib.ListN.{length, take, drop, length-drop, length-take, drop-of-length-le}
+use lib.ListN.{length, take, drop, length-drop, drop-of-length-le}
 use lib.Seq.{take-nil, take-all}
-use lib.Dec.{leb}
-use mathlib.Core.Bool.{true}
 use borrow.Author.Tests.{le-leb, lt-leb}
-use Rattle.words.specs.Words.{words, countIn}
-use Rattle.words.proofs.Laws.{countIn-few}
 use Rattle.records.specs.Records.{part}
 use Rattle.records.specs.Parts.{placeIn}
 
@@ -30,10 +26,3 @@ place-in s a h = simp (le-leb a (length s) h)
 
 pub place-out : (s : List ℕ) (a : ℕ) → length s < a → 0 ≡ placeIn s a
 place-out s a h = simp (lt-leb a (length s) h)
-
--- a part of few numbers needs no counting
-pub few-in : (flags s : List ℕ) (a k : ℕ) → k ≤ 16 → leb (countIn flags (words (part s a (2 * k)))) 16 ≡ true
-few-in flags s a k h =
-    let two = countIn-few flags (part s a (2 * k)) in
-    let short : length (part s a (2 * k)) ≤ 2 * k = rw length-take (omega arith) in
-    le-leb (countIn flags (words (part s a (2 * k)))) 16 (omega arith)

@@ -9,7 +9,8 @@ use Rattle.refusal.specs.declared.Judged.the-variants.{Fine}
 use Rattle.refusal.specs.Answer.{refusedAt, andThen}
 use Rattle.records.specs.declared.Header.{Header}
 use Rattle.records.specs.declared.Header.the-variants.{Whole, Short}
-use Rattle.records.specs.Records.{headerOf, conditionsOf, eventOf, markingOf}
+use Rattle.records.specs.Records.{headerOf}
+use Rattle.rules.specs.Rules.{conditionsOf, eventOf, markingOf}
 
 -- A header is whole and of a kind.
 abbrev pub kindIs : ℕ → Header → Bool

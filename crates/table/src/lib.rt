@@ -23,7 +23,7 @@ pub fn is_event(table: &[u8], at: usize) -> bool
 pub fn judge(table: &[u8]) -> Judged
     ensures { λ r. ⌜ r ≡ judgeOf (now (table .entry)) ⌝ }
 {
-    let first = records::conditions_record(table);
+    let first = rules::conditions_record(table);
     let Judged::Fine(start) = first else {
         return first;
     };
@@ -33,14 +33,14 @@ pub fn judge(table: &[u8]) -> Judged
         if left == 0 {
             return refusal::refused(6, at);
         }
-        let r = records::event_record(table, at);
+        let r = rules::event_record(table, at);
         let Judged::Fine(next) = r else {
             return r;
         };
         at = next;
         left = left - 1;
     }
-    let last = records::marking_record(table, at);
+    let last = rules::marking_record(table, at);
     let Judged::Fine(_) = last else {
         return last;
     };

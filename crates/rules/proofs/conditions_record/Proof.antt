@@ -1,11 +1,11 @@
--- `records::conditions_record` meets its contract.
+-- `rules::conditions_record` meets its contract.
 use mathlib.Core.Path.{_∙_, sym}
 use borrow.Author.Tests.{eq-eqb, ne-eqb, le-leb, lt-leb}
 use Rattle.refusal.specs.Answer.{need}
-use Rattle.records.specs.Records.{conditionsOf}
+use Rattle.rules.specs.Rules.{conditionsOf}
 use borrow.Author.Needs.{needs}
-use Rattle.records.proofs.conditions_record.Statement.{statement}
-use Rattle.records.proofs.conditions_record.Tie as tie
+use Rattle.rules.proofs.conditions_record.Statement.{statement}
+use Rattle.rules.proofs.conditions_record.Tie as tie
 
 returns : tie.Need-returns
 unfolding conditionsOf need

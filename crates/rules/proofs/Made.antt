@@ -9,8 +9,9 @@ use Rattle.lists.specs.Lists.{fits}
 use Rattle.words.specs.Words.{words, bits, countIn}
 use Rattle.refusal.specs.declared.Judged.the-variants.{Fine}
 use Rattle.refusal.specs.Answer.{need}
 use Rattle.records.specs.declared.Header.the-variants.{Whole}
-use Rattle.records.specs.Records.{part, headerOf, conditions, flags, preCount, postCount, prePart, postPart, listsOf, eventOf, conditionsOf, markingOf}
+use Rattle.records.specs.Records.{part, headerOf, conditions, flags, preCount, postCount, prePart, postPart}
+use Rattle.rules.specs.Rules.{listsOf, eventOf, conditionsOf, markingOf}
 
 pub conditions-made : (s : List ℕ) (len : ℕ) → headerOf s 0 ≡ Whole 1 len → 1 ≤ len → len ≤ 256 → bits (part s 4 len) ≡ true → conditionsOf s ≡ Fine (4 + len)
 unfolding conditionsOf need

@@ -1,13 +1,13 @@
--- `records::marking_record` meets its contract.
+-- `rules::marking_record` meets its contract.
 use mathlib.Core.Path.{_∙_, sym}
 use native.Mathlib.Omega.{arith}
 use borrow.Author.Tests.{eq-eqb, ne-eqb, le-leb, lt-leb, not-true, not-false}
 use Rattle.refusal.specs.Answer.{need}
-use Rattle.records.specs.Records.{markingOf}
+use Rattle.rules.specs.Rules.{markingOf}
 use Rattle.records.proofs.Headers.{known}
 use borrow.Author.Needs.{needs}
-use Rattle.records.proofs.marking_record.Statement.{statement}
-use Rattle.records.proofs.marking_record.Tie as tie
+use Rattle.rules.proofs.marking_record.Statement.{statement}
+use Rattle.rules.proofs.marking_record.Tie as tie
 
 returns : tie.Need-returns
 unfolding markingOf need

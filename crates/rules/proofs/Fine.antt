@@ -10,8 +10,9 @@ use Rattle.lists.specs.Lists.{fits}
 use Rattle.words.specs.Words.{wordAt, words, bits, countIn}
 use Rattle.refusal.specs.declared.Judged.the-variants.{Fine}
 use Rattle.refusal.proofs.Chain.{need-fine}
-use Rattle.records.specs.Records.{headerOf, conditions, flags, preCount, postCount, prePart, postPart, markingPart, listsOf, eventOf, conditionsOf, markingOf}
+use Rattle.records.specs.Records.{headerOf, conditions, flags, preCount, postCount, prePart, postPart, markingPart}
+use Rattle.rules.specs.Rules.{listsOf, eventOf, conditionsOf, markingOf}
 use Rattle.records.proofs.Headers.{known, whole-fine}
 
 pub record EventFine (s : List ℕ) (at next : ℕ) : Type 0 where
   pub nextIs : next ≡ at + 4 + wordAt s at
