@@ -1,5 +1,5 @@
 -- The exchange on bytes is the model's: its premises, the marking before step k, the part that is swapped, and the chain of refusals.
-use Prim.Native.Nat.{ℕ, zero, suc, _-_, _≤_, _<_}
+use Prim.Native.Nat.{ℕ, zero, suc, _+_, _-_, _≤_, _<_}
 use native.Mathlib.Omega.{arith}
 use mathlib.Core.Path.{_≡_, refl, sym, ap, _∙_, subst}
 use mathlib.Core.Bool.{Bool, true, false, _&&_}
@@ -10,8 +10,7 @@ use lib.ListN.{length, getD, take, drop, set, length-drop, drop-of-length-le}
 use lib.Seq.{take-all, length-take-le}
 use borrow.Author.Tests.{eq-eqb, ne-eqb, le-ltb}
 use Rattle.lists.proofs.Bools.{iff}
-use Rattle.lists.specs.Lists.{all, failing, nothing}
-use Rattle.lists.proofs.Tests.{nothing-fails}
+use Rattle.lists.specs.Lists.{all}
 use Rattle.model.specs.Net.{Net, Marking, begin, fire}
 use Rattle.model.specs.Runs.{runs, end, opening, replay}
 use Rattle.model.specs.Exchange.{touch, apart, apartStep, exchanged}
@@ -21,19 +20,17 @@ use Rattle.model.proofs.Answers.{not-stuck, stuck-none, short-length, length-sh
 use Rattle.refusal.specs.declared.Refusal as table
 use Rattle.refusal.specs.declared.Judged.{Judged}
 use Rattle.refusal.specs.declared.Judged.the-variants.{Fine, Refused}
-use Rattle.refusal.specs.declared.TableCondition.{TableCondition}
 use Rattle.refusal.specs.Answer.{refusedAt}
 use Rattle.refusal.proofs.Chain.{never-both}
-use Rattle.words.specs.Words.{words}
+use Rattle.words.specs.Words.{wordAt, words}
+use Rattle.words.proofs.Laws.{words-next, words-end}
 use Rattle.records.specs.Records.{flags, prePart, postPart}
 use Rattle.table.specs.Walk.{judgeOf}
 use Rattle.table.specs.Decoded.{netOf}
 use Rattle.table.proofs.Decoded.{net-judged}
-use Rattle.game.specs.declared.Failing.{Failing}
-use Rattle.game.specs.declared.Failing.the-variants.{Nothing, At}
-use Rattle.game.specs.declared.Test.the-variants.{Shared, Held, Once}
+use Rattle.exchange.specs.declared.Test.the-variants.{Shared, Held, Once}
 use Rattle.model.specs.Lent.{marking}
-use Rattle.game.specs.Steps.{passesOf, failingOf}
+use Rattle.exchange.specs.Tests.{passesOf}
 use Rattle.game.specs.Calls.{passing}
 use Rattle.replay.specs.Calls.{begunAt}
 use Rattle.exchange.specs.Calls.{swapping, exchangeOf, exchangedOf}
@@ -41,22 +38,17 @@ use Rattle.exchange.specs.Played.{Found, Exchangeable}
 use Rattle.replay.specs.Played.{Plays}
 use Rattle.replay.proofs.Ends.{left-refused, passing-refused, passing-fine}
 
--- ---- every condition of a list passes, or one fails
+-- ---- every condition of a list passes: a condition b that stands at i, and no condition left
 
-module _ (f : ℕ → Bool) (l : List ℕ) (x : Failing) (is : x ≡ failingOf (failing f l)) where
-  pub some-fails : (b : TableCondition) → x ≡ At b → false ≡ all f l
-  some-fails b e = go (failing f l) (sym is ∙ e) ∙ nothing-fails f l
-    where
-      go : (o : Option ℕ) → failingOf o ≡ At b → false ≡ nothing o
-      go none q = absurd (let z : _≡_ {A = ℕ} 0 1 = cc in omega arith)
-      go (some y) q = refl
+module _ (f : ℕ → Bool) (s : List ℕ) (i b : ℕ) (h : 1 < length s - i) (e : b ≡ wordAt s i) where
+  pub one-fails : f b ≡ false → all f (words (drop i s)) ≡ false
+  one-fails p = rw (words-next s i h, ← e, p)
 
-  pub none-fails : x ≡ Nothing → true ≡ all f l
-  none-fails e = go (failing f l) (sym is ∙ e) ∙ nothing-fails f l
-    where
-      go : (o : Option ℕ) → failingOf o ≡ Nothing → true ≡ nothing o
-      go none q = refl
-      go (some y) q = absurd (let z : _≡_ {A = ℕ} 0 1 = cc in omega arith)
+  pub one-passes : f b ≡ true → all f (words (drop i s)) ≡ all f (words (drop (i + 2) s))
+  one-passes p = rw (words-next s i h, ← e, p)
+
+pub none-left : (f : ℕ → Bool) (s : List ℕ) (i : ℕ) → length s - i ≤ 1 → all f (words (drop i s)) ≡ true
+none-left f s i h = rw (words-end s i h)
 
 -- ---- the premises
 

@@ -1,20 +1,72 @@
 // The exchange of two neighbouring steps of a lent run, where they may change places.
-use game::Failing;
-use game::Test;
 use refusal::Judged;
 ghost use mathlib.Core.Path.{_≡_};
-ghost use Prim.Native.Nat.{suc, _≤_};
+ghost use mathlib.Core.List.{_++_};
+ghost use Prim.Native.Nat.{suc, _≤_, _<_};
 ghost use lib.ListN.{length};
 ghost use lib.Dec.{ltb};
-ghost use Rattle.lists.specs.Lists.{all};
+ghost use Rattle.lists.specs.Lists.{mem, all, _⇒_};
 ghost use Rattle.words.specs.Words.{words};
 ghost use Rattle.model.specs.Net.{begin};
 ghost use Rattle.model.specs.Exchange.{apart, apartStep, exchanged};
 ghost use Rattle.table.specs.Decoded.{netOf};
 ghost use Rattle.model.specs.Lent.{marking};
-ghost use Rattle.game.specs.Steps.{passesOf};
 ghost use Rattle.exchange.specs.Played.{Found, Exchangeable};
+ghost use Rattle.exchange.specs.Tests.{passesOf};
 ghost use Rattle.exchange.specs.Calls.{exchangeOf, exchangedOf};
+
+// The tests that the conditions of a list are put to.
+pub enum Test {
+    Shared,
+    Held,
+    Once,
+}
+
+// Whether an event touches a condition only if it is kept.
+fn unshared<'a>(kept: bool, pre: &'a [u8], post: &'a [u8], b: usize) -> bool
+    ensures { λ r. ⌜ r ≡ (mem b (words (now (pre .entry)) ++ words (now (post .entry))) ⇒ kept) ⌝ }
+{
+    if words::has(pre, b) {
+        return kept;
+    }
+    if words::has(post, b) {
+        return kept;
+    }
+    true
+}
+
+// Whether one condition passes a test, by the persistent flags, the marking and the lists of an event.
+fn passes<'a>(
+    test: Test,
+    flags: &'a [u8],
+    state: &'a [u8],
+    pre: &'a [u8],
+    post: &'a [u8],
+    b: u16,
+) -> bool
+    ensures { λ r. ⌜ r ≡ passesOf test (now (flags .entry)) (marking (now (state .entry))) (words (now (pre .entry))) (words (now (post .entry))) b ⌝ }
+{
+    let place = b as usize;
+    let holds = words::byte(state, place) == 1;
+    let kept = words::byte(flags, place) == 1;
+    match test {
+        Test::Shared => unshared(kept, pre, post, place),
+        Test::Held => {
+            if kept {
+                return holds;
+            }
+            true
+        }
+        Test::Once => {
+            if kept {
+                if words::has(post, place) {
+                    return holds;
+                }
+            }
+            true
+        }
+    }
+}
 
 // Whether every condition of a list passes a test.
 fn all_pass<'a>(
@@ -27,10 +79,14 @@ fn all_pass<'a>(
 ) -> bool
     ensures { λ r. ⌜ r ≡ all (passesOf test (now (flags .entry)) (marking (now (state .entry))) (words (now (pre .entry))) (words (now (post .entry)))) (words (now (list .entry))) ⌝ }
 {
-    let failing = game::first_failing(test, flags, state, pre, post, list);
-    let Failing::Nothing = failing else {
-        return false;
-    };
+    let mut i: usize = 0;
+    while 1 < list.len() - i {
+        if passes(test, flags, state, pre, post, words::word(list, i)) {
+            i = i + 2;
+        } else {
+            return false;
+        }
+    }
     true
 }
 

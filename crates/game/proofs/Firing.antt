@@ -22,10 +22,9 @@ use Rattle.game.specs.declared.Cause.{Cause}
 use Rattle.game.specs.declared.Cause.the-variants.{Lacks, Meets}
 use Rattle.game.specs.declared.Failing.{Failing}
 use Rattle.game.specs.declared.Failing.the-variants.{Nothing, At}
-use Rattle.game.specs.declared.Test.the-variants.{Holds}
 use Rattle.model.specs.Lent.{bit, bytes, marking}
 use Rattle.game.specs.Lent.{Lent}
-use Rattle.game.specs.Steps.{passesOf, clearOf, failingOf, setOne, setAll, recordNet, stepOf, stepped}
+use Rattle.game.specs.Steps.{clearOf, failingOf, setOne, setAll, recordNet, stepOf, stepped}
 use Rattle.model.proofs.Lent.{bytes-are, bytes-at, bit-one, tidy-marking}
 use Rattle.game.proofs.Bytes.{lent-at}
 
@@ -49,7 +48,7 @@ found-nothing (some x) p d e = absurd (let z : _≡_ {A = ℕ} 0 1 = cc in omega
 -- the three lists of bytes that the test of a record reads
 module _ (s l : List ℕ) (at : ℕ) (f pre post : List ℕ) (isF : f ≡ flags s) (isPre : pre ≡ prePart s at) (isPost : post ≡ postPart s at) where
   abbrev low : Option ℕ
-  low = failing (passesOf Holds f (marking l) (words pre) (words post)) (words pre)
+  low = failing (marking l) (words pre)
 
   abbrev high : Option ℕ
   high = failing (clearOf f (marking l) (λ b. mem b (words pre))) (words post)

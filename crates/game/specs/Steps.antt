@@ -1,11 +1,10 @@
 -- One step on a lent marking: which conditions stop it, what it answers and what it writes.
-use mathlib.Core.Bool.{Bool, not, _&&_, _||_, cond}
+use mathlib.Core.Bool.{Bool, not, _||_, cond}
 use mathlib.Core.Option.{Option, none, some}
-use mathlib.Core.List.{List, [], _∷_, _++_}
+use mathlib.Core.List.{List, [], _∷_}
 use Prim.Native.Nat.{ℕ}
 use lib.Dec.{eqb}
 use lib.ListN.{getD, set}
-use Rattle.lists.specs.Lists.{mem, _⇒_}
 use Rattle.model.specs.Net.{Net, Marking, Stop, unknown, lacks, meets}
 use Rattle.refusal.specs.declared.Judged.{Judged}
 use Rattle.refusal.specs.declared.Judged.the-variants.{Fine}
@@ -18,19 +17,8 @@ use Rattle.game.specs.declared.Step.{Step}
 use Rattle.game.specs.declared.Step.the-variants.{Goes, Stops}
 use Rattle.game.specs.declared.Failing.{Failing}
 use Rattle.game.specs.declared.Failing.the-variants.{Nothing, At}
-use Rattle.game.specs.declared.Test.{Test}
-use Rattle.game.specs.declared.Test.the-variants.{Holds, Shared, Held, Once}
 
--- ---- tests of one condition
-
--- What a condition of a list must pass, by the flags of the persistent ones, a marking and the two lists of an event: it holds; the
--- event touches it only if it is persistent; it holds if it is persistent, or if it is so and the event puts it (01, Playing the table
--- and Runs across).
-abbrev pub passesOf : Test → List ℕ → Marking → List ℕ → List ℕ → ℕ → Bool
-passesOf Holds f m pre post b = m b
-passesOf Shared f m pre post b = mem b (pre ++ post) ⇒ eqb (getD f b 0) 1
-passesOf Held f m pre post b = eqb (getD f b 0) 1 ⇒ m b
-passesOf Once f m pre post b = eqb (getD f b 0) 1 && mem b post ⇒ m b
+-- ---- the test of one condition, and the first that fails
 
 -- A condition makes no contact if it does not hold, or is persistent, or is taken, as the preconditions of the event are (01, Playing
 -- the table).

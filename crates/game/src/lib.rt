@@ -3,16 +3,15 @@ use refusal::Judged;
 use refusal::TableCondition;
 use refusal::TableEvent;
 ghost use mathlib.Core.Path.{_≡_};
-ghost use mathlib.Core.List.{_++_};
 ghost use Prim.Native.Nat.{_≤_, _<_};
 ghost use lib.ListN.{length};
-ghost use Rattle.lists.specs.Lists.{mem, failing, _⇒_};
+ghost use Rattle.lists.specs.Lists.{mem, failing};
 ghost use Rattle.words.specs.Words.{words};
 ghost use Rattle.model.specs.Net.{stopping, fire};
 ghost use Rattle.model.specs.Lent.{bytes, marking};
 ghost use Rattle.game.specs.Lent.{Lent, firstAbove};
 ghost use Rattle.refusal.specs.declared.Judged.the-variants.{Fine};
-ghost use Rattle.game.specs.Steps.{passesOf, clearOf, failingOf, setOne, setAll, recordNet, causeNumber, stepOf, stepped, answeredOf};
+ghost use Rattle.game.specs.Steps.{clearOf, failingOf, setOne, setAll, recordNet, causeNumber, stepOf, stepped, answeredOf};
 ghost use Rattle.game.specs.Ready.{readyOf};
 ghost use Rattle.game.specs.Calls.{onMarking, concessionOf, fireOf, firedOf};
 
@@ -27,14 +26,6 @@ pub enum Cause {
 pub enum Step {
     Goes,
     Stops(Cause),
-}
-
-// The tests that the conditions of a list are put to.
-pub enum Test {
-    Holds,
-    Shared,
-    Held,
-    Once,
 }
 
 // The first condition of a list that fails its test.
@@ -57,81 +48,14 @@ pub fn first_above(state: &[u8]) -> usize
     i
 }
 
-// Whether a condition makes no contact: it does not hold, or it is kept, or it is among those that are taken.
-fn clear<'a>(flags: &'a [u8], state: &'a [u8], taken: &'a [u8], b: usize) -> bool
-    ensures { λ r. ⌜ r ≡ clearOf (now (flags .entry)) (marking (now (state .entry))) (marking (now (taken .entry))) b ⌝ }
-{
-    if words::byte(state, b) == 1 {
-        if words::byte(flags, b) == 1 {
-            return true;
-        }
-        return words::byte(taken, b) == 1;
-    }
-    true
-}
-
-// Whether an event touches a condition only if it is kept.
-fn unshared<'a>(kept: bool, pre: &'a [u8], post: &'a [u8], b: usize) -> bool
-    ensures { λ r. ⌜ r ≡ (mem b (words (now (pre .entry)) ++ words (now (post .entry))) ⇒ kept) ⌝ }
-{
-    if words::has(pre, b) {
-        return kept;
-    }
-    if words::has(post, b) {
-        return kept;
-    }
-    true
-}
-
-// Whether one condition passes a test, by the persistent flags, the marking and the lists of an event.
-fn passes<'a>(
-    test: Test,
-    flags: &'a [u8],
-    state: &'a [u8],
-    pre: &'a [u8],
-    post: &'a [u8],
-    b: u16,
-) -> bool
-    ensures { λ r. ⌜ r ≡ passesOf test (now (flags .entry)) (marking (now (state .entry))) (words (now (pre .entry))) (words (now (post .entry))) b ⌝ }
-{
-    let place = b as usize;
-    let holds = words::byte(state, place) == 1;
-    let kept = words::byte(flags, place) == 1;
-    match test {
-        Test::Holds => holds,
-        Test::Shared => unshared(kept, pre, post, place),
-        Test::Held => {
-            if kept {
-                return holds;
-            }
-            true
-        }
-        Test::Once => {
-            if kept {
-                if words::has(post, place) {
-                    return holds;
-                }
-            }
-            true
-        }
-    }
-}
-
-// The first condition of a list that fails a test.
-pub fn first_failing<'a>(
-    test: Test,
-    flags: &'a [u8],
-    state: &'a [u8],
-    pre: &'a [u8],
-    post: &'a [u8],
-    list: &'a [u8],
-) -> Failing
-    ensures { λ r. ⌜ r ≡ failingOf (failing (passesOf test (now (flags .entry)) (marking (now (state .entry))) (words (now (pre .entry))) (words (now (post .entry)))) (words (now (list .entry)))) ⌝ }
+// The first condition of a list that does not hold.
+fn first_lacking<'a>(state: &'a [u8], list: &'a [u8]) -> Failing
+    ensures { λ r. ⌜ r ≡ failingOf (failing (marking (now (state .entry))) (words (now (list .entry)))) ⌝ }
 {
     let mut i: usize = 0;
     while 1 < list.len() - i {
         let b = words::word(list, i);
-        if passes(test, flags, state, pre, post, b) {
+        if words::byte(state, b as usize) == 1 {
             i = i + 2;
         } else {
             return Failing::At(TableCondition(b));
@@ -161,6 +85,19 @@ pub fn set_all<'a>(kept: &'a [u8], list: &'a [u8], value: u8, state: &mut [u8])
         set_one(kept, words::word(list, i) as usize, value, state);
         i = i + 2;
     }
+}
+
+// Whether a condition makes no contact: it does not hold, or it is kept, or it is among those that are taken.
+fn clear<'a>(flags: &'a [u8], state: &'a [u8], taken: &'a [u8], b: usize) -> bool
+    ensures { λ r. ⌜ r ≡ clearOf (now (flags .entry)) (marking (now (state .entry))) (marking (now (taken .entry))) b ⌝ }
+{
+    if words::byte(state, b) == 1 {
+        if words::byte(flags, b) == 1 {
+            return true;
+        }
+        return words::byte(taken, b) == 1;
+    }
+    true
 }
 
 // The first condition of a list that makes contact, where the taken conditions are marked.
@@ -197,7 +134,7 @@ fn test_at<'a>(table: &'a [u8], at: usize, state: &'a [u8]) -> Step
     let flags = records::part_of(table, 4, words::word(table, 0) as usize);
     let pre = records::pre_at(table, at);
     let post = records::post_at(table, at);
-    let lacking = first_failing(Test::Holds, flags, state, pre, post, pre);
+    let lacking = first_lacking(state, pre);
     if let Failing::At(b) = lacking {
         return Step::Stops(Cause::Lacks(b));
     }

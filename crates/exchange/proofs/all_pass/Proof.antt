@@ -1,19 +1,49 @@
 -- `exchange::all_pass` meets its contract.
+use Prim.Native.Nat.{_-_, _≤_}
+use native.Mathlib.Omega.{arith}
+use mathlib.Core.Path.{_≡_, _∙_, sym}
+use lib.ListN.{length, drop}
+use Rattle.lists.specs.Lists.{all}
 use Rattle.words.specs.Words.{words}
 use Rattle.model.specs.Lent.{marking}
-use Rattle.game.specs.Steps.{passesOf}
-use Rattle.exchange.proofs.Exchanging.{some-fails, none-fails}
+use Rattle.exchange.specs.Tests.{passesOf}
+use Rattle.exchange.proofs.Exchanging.{one-fails, one-passes, none-left}
 use borrow.Author.Needs.{needs}
 use Rattle.exchange.proofs.all_pass.Statement.{statement}
 use Rattle.exchange.proofs.all_pass.Tie as tie
 
-returns : tie.Need-returns
-returns c =
-    some-fails (passesOf (c .before .before .before .before .before .before .before .before .args .test) (c .before .before .before .before .before .before .before .before .args .flags .now) (marking (c .before .before .before .before .before .before .before .before .args .state .now)) (words (c .before .before .before .before .before .before .before .before .args .pre .now)) (words (c .before .before .before .before .before .before .before .before .args .post .now))) (words (c .before .before .before .before .before .before .before .before .args .list .now)) _ (c .before .before .first-failing .ensures) _ (c .enum-told2 .given .1)
+abbrev Inv-loop : tie.InvT-loop
+Inv-loop test flags state pre post list i₀ i =
+    (i ≤ length list) × (all (passesOf test flags (marking state) (words pre) (words post)) (words list) ≡ all (passesOf test flags (marking state) (words pre) (words post)) (words (drop i list)))
 
-returns-2 : tie.Need-returns-2
+abbrev μ-loop : tie.MeasureT-loop
+μ-loop test flags state pre post list i₀ i =
+    length list - i
+
+loop-again : tie.Need-loop-again Inv-loop μ-loop
+loop-again c =
+    (omega arith, c .before .before .before .before .loop .inv .1 ∙ one-passes _ (c .before .before .before .before .before .before .before .before .before .before .args .list .now) (c .before .before .before .before .loop .i) _ (c .before .before .before .loop-test .taken) (c .before .before .word .ensures) (sym (c .before .passes .ensures) ∙ c .if1 .taken))
+
+returns : tie.Need-returns Inv-loop μ-loop
+returns c =
+    sym (c .before .before .before .before .loop .inv .1 ∙ one-fails _ (c .before .before .before .before .before .before .before .before .before .before .args .list .now) (c .before .before .before .before .loop .i) _ (c .before .before .before .loop-test .taken) (c .before .before .word .ensures) (sym (c .before .passes .ensures) ∙ c .if1 .left))
+
+returns-2 : tie.Need-returns-2 Inv-loop μ-loop
 returns-2 c =
-    none-fails (passesOf (c .before .before .before .before .before .before .before .before .args .test) (c .before .before .before .before .before .before .before .before .args .flags .now) (marking (c .before .before .before .before .before .before .before .before .args .state .now)) (words (c .before .before .before .before .before .before .before .before .args .pre .now)) (words (c .before .before .before .before .before .before .before .before .args .post .now))) (words (c .before .before .before .before .before .before .before .before .args .list .now)) _ (c .before .before .first-failing .ensures) (c .enum-told .given .1)
+    sym (c .before .loop .inv .1 ∙ none-left _ (c .before .before .before .before .before .before .before .args .list .now) (c .before .loop .i) (c .loop-test .left))
 
 pub all-pass-spec : {M : Type 1} → statement M
-all-pass-spec = tie.close (tie.spec (λ c κs. search needs) (λ c. search needs) (λ c. search needs) returns returns-2)
+all-pass-spec =
+    tie.close
+    (tie.spec
+    Inv-loop
+    μ-loop
+    (λ c. search needs)
+    (λ c. search needs)
+    (λ c κs. search needs)
+    (λ c κs. search needs)
+    (λ c. search needs)
+    (λ c. search needs)
+    loop-again
+    returns
+    returns-2)

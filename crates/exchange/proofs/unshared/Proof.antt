@@ -1,8 +1,8 @@
--- `game::unshared` meets its contract.
+-- `exchange::unshared` meets its contract.
 use Rattle.lists.proofs.Members.{mem-append}
 use borrow.Author.Needs.{needs}
-use Rattle.game.proofs.unshared.Statement.{statement}
-use Rattle.game.proofs.unshared.Tie as tie
+use Rattle.exchange.proofs.unshared.Statement.{statement}
+use Rattle.exchange.proofs.unshared.Tie as tie
 
 returns : tie.Need-returns
 returns c =
