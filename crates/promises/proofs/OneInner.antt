@@ -23,6 +23,7 @@ use Rattle.unfolding.specs.Numbers.{Owner, Belongs}
 use Rattle.promises.proofs.One.{same-part}
 use Rattle.words.proofs.byte.Reads as byte
 use Rattle.words.proofs.word.Reads as word
+use Rattle.words.proofs.word_within.Reads as word-within
 use Rattle.words.proofs.has.Reads as has
 use Rattle.words.proofs.ascends.Reads as ascends
 use Rattle.words.proofs.all_bits.Reads as all-bits
@@ -38,7 +39,6 @@ use Rattle.records.proofs.marking_at.Reads as marking-at
 use Rattle.table.proofs.is_event.Reads as is-event
 use Rattle.table.proofs.offset.Reads as offset
 use Rattle.game.proofs.first_above.Reads as first-above
-use Rattle.game.proofs.first_failing.Reads as first-failing
 use Rattle.game.proofs.set_all.Reads as set-all
 use Rattle.game.proofs.step_at.Reads as step-at
 use Rattle.game.proofs.answered.Reads as answered
@@ -57,6 +57,7 @@ use Rattle.layout.proofs.colours.Reads as colours
 use Rattle.unfolding.proofs.marker_at.Reads as marker-at
 use Rattle.unfolding.proofs.marker_place.Reads as marker-place
 use Rattle.unfolding.proofs.owner.Reads as owner
+use Rattle.unfolding.proofs.colours_before.Reads as colours-before
 use Rattle.copies.proofs.write_copies.Reads as write-copies
 use Rattle.decided.proofs.decide.Reads as decide
 use Rattle.walking.proofs.test.Reads as ranges-test
@@ -100,6 +101,9 @@ byte-one κs a r q x y h g = h ∙ sym g
 
 pub word-one : (κs : _) (a : _) (r q : _) (x y : _) → word.Learnt κs a r x → word.Learnt κs a q y → r ≡ q
 word-one κs a r q x y h g = h ∙ sym g
+
+pub word-within-one : (κs : _) (a : _) (r q : _) (x y : _) → word-within.Learnt κs a r x → word-within.Learnt κs a q y → r ≡ q
+word-within-one κs a r q x y h g = h ∙ sym g
 
 pub has-one : (κs : _) (a : _) (r q : _) (x y : _) → has.Learnt κs a r x → has.Learnt κs a q y → r ≡ q
 has-one κs a r q x y h g = h ∙ sym g
@@ -149,9 +153,6 @@ offset-one κs a r q x y h g = h ∙ sym g
 
 pub first-above-one : (κs : _) (a : _) (r q : _) (x y : _) → first-above.Learnt κs a r x → first-above.Learnt κs a q y → r ≡ q
 first-above-one κs a r q x y h g = h ∙ sym g
-
-pub first-failing-one : (κs : _) (a : _) (r q : _) (x y : _) → first-failing.Learnt κs a r x → first-failing.Learnt κs a q y → r ≡ q
-first-failing-one κs a r q x y h g = h ∙ sym g
 
 pub set-all-one : (κs : _) (a : _) (r q : _) (x y : _) → set-all.Learnt κs a r x → set-all.Learnt κs a q y → now (x .1 .1 .1 .0) ≡ now (y .1 .1 .1 .0)
 set-all-one κs a r q x y h g = h ∙ sym g
@@ -214,6 +215,9 @@ marker-place-one κs a r q x y h g = h ∙ sym g
 
 pub owner-one : (κs : _) (a : _) (r q : _) (x y : _) → owner.Learnt κs a r x → owner.Learnt κs a q y → r ≡ q
 owner-one κs a r q x y h g = same-owner (now (a .0)) (a .1 .1 .1 .0) r q h g
+
+pub colours-before-one : (κs : _) (a : _) (r q : _) (x y : _) → colours-before.Learnt κs a r x → colours-before.Learnt κs a q y → r ≡ q
+colours-before-one κs a r q x y h g = h ∙ sym g
 
 pub write-copies-one : (κs : _) (a : _) (r q : _) (x y : _) → write-copies.Learnt κs a r x → write-copies.Learnt κs a q y → now (x .1 .1 .1 .1 .1 .1 .1 .0) ≡ now (y .1 .1 .1 .1 .1 .1 .1 .0)
 write-copies-one κs a r q x y h g = h ∙ sym g
