@@ -242,7 +242,12 @@ impl Parser {
             persistent: false,
             place,
         };
+        let begun = self.tokens[self.at - 1].piece.told();
         self.need(&Piece::Colon)?;
+        self.skip_lines();
+        if *self.piece() != Piece::Open {
+            return self.unexpected(&format!("`{{`, since {begun} begins an event"));
+        }
         let before = self.set()?;
         self.skip_lines();
         self.need(&Piece::Arrow)?;

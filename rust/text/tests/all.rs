@@ -175,7 +175,8 @@ fn troubles_of_other_statements() {
     let before = "conditions: a, b [p]\nx: {a} -> {b}\nstart: {a}\n";
     for (statement, expected) in [
         ("y {a}", "line 4, column 3: expected `:`, found `{`"),
-        ("y: a", "line 4, column 4: expected `{`, found `a`"),
+        ("y: a", "line 4, column 4: expected `{`, since `y` begins an event, found `a`"),
+        ("condition:\n  c", "line 5, column 3: expected `{`, since `condition` begins an event, found `c`"),
         ("y: {a} {b}", "line 4, column 8: expected `->`, found `{`"),
         ("y: {a} - {b}", "line 4, column 8: expected `->`, found ` ` within it"),
         ("y: {a b} -> {}", "line 4, column 7: expected `,` or `}`, found `b`"),
