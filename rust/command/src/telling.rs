@@ -147,6 +147,10 @@ impl Source {
             1..=8 => self.offset_told(refusal.place as usize),
             9 => format!("byte {} of {}", refusal.place, self.path),
             13 => self.event_told(refusal.place as u16),
+            19 => {
+                let of = if self.is_text { "the records of " } else { "" };
+                format!("{of}{}, {} bytes", self.path, self.bytes.len())
+            }
             _ => self.path.clone(),
         }
     }
@@ -161,6 +165,7 @@ impl Source {
             (1..=9, Some(first)) => {
                 return format!("{called}, whose steps begin at {first} of {}", self.path)
             }
+            (19, _) => return format!("{called}, {} bytes as a record", run.bytes.len()),
             _ => return called.clone(),
         }
         let told = format!("step {step} of {called}, counted from 0");

@@ -457,6 +457,31 @@ fn a_run_that_is_refused_is_not_taken_for_the_table() {
 }
 
 #[test]
+fn too_long_a_file_is_told_by_its_bytes() {
+    let folder = Folder::new().unwrap();
+    let events: String = (0..128)
+        .map(|e| format!("{e}: {{0..255}} -> {{}}\n"))
+        .collect();
+    let steps = "0, ".repeat(4097);
+    let table = format!("conditions: 0..255\n{events}start: {{}}\nrun r: 0\n");
+    folder.write("t.txt", table.as_bytes()).unwrap();
+    let (out, err) = refused(folder.path(), &["list", "t.txt"]);
+    assert_eq!(out, "refused 19 at 0\n");
+    assert!(
+        err.ends_with("  where: the records of t.txt, 66824 bytes\n"),
+        "{err}"
+    );
+    let table = format!("conditions: a\n0: {{a}} -> {{a}}\nstart: {{a}}\nrun r: {steps}\n");
+    folder.write("t.txt", table.as_bytes()).unwrap();
+    let (out, err) = refused(folder.path(), &["list", "t.txt"]);
+    assert_eq!(out, "refused 19 at 0\n");
+    assert!(
+        err.ends_with("  where: run `r`, 8198 bytes as a record\n"),
+        "{err}"
+    );
+}
+
+#[test]
 fn what_is_due_in_place_of_a_wrong_record_is_told() {
     let folder = Folder::new().unwrap();
     for (bytes, what) in [
