@@ -140,6 +140,22 @@ marked-clear f l bs t c h e = fun-ext (λ b. go b (decLe c b))
     go b (yes p) = let q : eqb (getD l b 0) 1 ≡ false = tidy-marking l b (omega arith) in rw q
     go b (no p) = rw (here b (lt-of-not-le p))
 
+-- where no condition makes contact though nothing is taken, none does
+pub none-meets : (f l bs xs : List ℕ) (x : Failing) → x ≡ failingOf (failing (clearOf f (marking l) (marking [])) xs) → x ≡ Nothing
+    → x ≡ failingOf (failing (clearOf f (marking l) (λ b. mem b bs)) xs)
+unfolding marking
+none-meets f l bs xs x is e = e ∙ sym (ap failingOf (go xs (sym is ∙ e)))
+  where
+    step : (h k m : Bool) (b : ℕ) (before after : Option ℕ) → failingOf (cond (not h || (k || false)) before (some b)) ≡ Nothing → (failingOf before ≡ Nothing → after ≡ none)
+        → cond (not h || (k || m)) after (some b) ≡ none
+    step false k m b before after e ih = ih e
+    step true true m b before after e ih = ih e
+    step true false m b before after e ih = absurd (let z : _≡_ {A = ℕ} 0 1 = cc in omega arith)
+
+    go : (xs : List ℕ) → failingOf (failing (clearOf f (marking l) (marking [])) xs) ≡ Nothing → failing (clearOf f (marking l) (λ b. mem b bs)) xs ≡ none
+    go [] e = refl
+    go (b ∷ xs) e = step (eqb (getD l b 0) 1) (eqb (getD f b 0) 1) (mem b bs) b _ _ e (go xs)
+
 -- ---- the firing
 
 fired-at : (z a k m : Bool) → cond (z && true) 1 (cond (a && not k) 0 (bit m)) ≡ bit (z || m && (k || not a))

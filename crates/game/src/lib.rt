@@ -3,7 +3,7 @@ use refusal::Judged;
 use refusal::TableCondition;
 use refusal::TableEvent;
 ghost use mathlib.Core.Path.{_≡_};
-ghost use Prim.Native.Nat.{_≤_, _<_};
+ghost use Prim.Native.Nat.{_≤_};
 ghost use lib.ListN.{length};
 ghost use Rattle.lists.specs.Lists.{mem, failing};
 ghost use Rattle.words.specs.Words.{words};
@@ -116,11 +116,16 @@ fn first_contact<'a>(flags: &'a [u8], state: &'a [u8], taken: &'a [u8], list: &'
     Failing::Nothing
 }
 
-// The first postcondition that makes contact; the preconditions are marked once, so that none is looked up in their list.
+// The first postcondition that makes contact: where one would if nothing were taken, the preconditions are marked once, so that none is
+// looked up in their list.
 fn contact<'a>(flags: &'a [u8], state: &'a [u8], pre: &'a [u8], post: &'a [u8]) -> Failing
     requires { ⌜ length (now state) ≤ 256 ⌝ }
     ensures { λ r. ⌜ r ≡ failingOf (failing (clearOf (now (flags .entry)) (marking (now (state .entry))) (λ b. mem b (words (now (pre .entry))))) (words (now (post .entry)))) ⌝ }
 {
+    let untaken = first_contact(flags, state, &pre[..0], post);
+    let Failing::At(_) = untaken else {
+        return untaken;
+    };
     let mut taken = [0u8; 256];
     set_all(&pre[..0], pre, 1, &mut taken);
     first_contact(flags, state, &taken, post)
