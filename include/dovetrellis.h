@@ -8,7 +8,7 @@
  * - A lent slice is a pointer and a length, counted in elements of the pointer's type. The pointer is not null, even where the
  *   length is 0, is aligned for its type, and that many elements stand behind it.
  * - Outputs overlap neither each other nor what is read. Inputs may overlap.
- * - Memory that is read is set before the call. A lent output may hold anything.
+ * - Memory that is read is set before the call. A lent output may hold anything, but a `bool` is false or true.
  * Nothing else is assumed: any bytes may be a table, any numbers a run.
  *
  * What every call does:
