@@ -30,9 +30,24 @@ pub struct RunSource {
     pub places: Vec<Place>,
 }
 
+/// The most bytes of a record file that the library is asked with; no table that it accepts has a tenth of them.
+const MOST_BYTES: usize = 4_000_000;
+
 /// The bytes of a file.
 fn bytes_of(path: &str) -> Stopped<Vec<u8>> {
     fs::read(path).map_err(|error| Stop::Failed(format!("{path}: {error}")))
+}
+
+/// A record file that the library can be asked with.
+fn asked_with(path: &str, bytes: &[u8]) -> Stopped<()> {
+    if bytes.len() <= MOST_BYTES {
+        return Ok(());
+    }
+    let what = format!(
+        "{} bytes, and record files are taken up to {MOST_BYTES}",
+        bytes.len()
+    );
+    Err(Stop::Failed(format!("{path}: {what}")))
 }
 
 /// The table that the text of a file spells.
@@ -62,6 +77,7 @@ pub fn read(path: &str) -> Stopped<Source> {
     if text::is_text(&bytes) {
         return spelled(path, &bytes);
     }
+    asked_with(path, &bytes)?;
     Ok(Source {
         path: path.to_string(),
         table: Table::of_bytes(&bytes).unwrap_or_default(),
@@ -77,6 +93,7 @@ pub fn read_run(path: &str) -> Stopped<RunSource> {
         let what = "is text; a run is a record file, or the name of a run in a text table";
         return Err(Stop::Use(format!("{path} {what}")));
     }
+    asked_with(path, &bytes)?;
     Ok(RunSource {
         called: path.to_string(),
         steps: text::steps_of(&bytes).unwrap_or_default(),

@@ -508,3 +508,12 @@ fn what_is_due_in_place_of_a_wrong_record_is_told() {
         assert!(err.contains(what), "{err}");
     }
 }
+
+#[test]
+fn a_file_that_the_library_is_not_asked_with_is_told() {
+    let folder = Folder::new().unwrap();
+    folder.write("huge.bin", &[1; 4_000_001]).unwrap();
+    let told = ran_in(folder.path(), &["judge", "huge.bin"]);
+    assert_eq!((told.status, told.out.as_str()), (2, ""));
+    assert!(told.err.contains("huge.bin: 4000001 bytes"), "{}", told.err);
+}
