@@ -8,6 +8,9 @@ ghost use lib.ListN.{length};
 ghost use Rattle.lists.specs.Lists.{any, index};
 ghost use Rattle.words.specs.Words.{words};
 ghost use Rattle.table.specs.Decoded.{netOf};
+ghost use Rattle.table.specs.Walk.{judgeOf};
+ghost use Rattle.refusal.specs.declared.Judged.the-variants.{Fine};
+ghost use Rattle.model.specs.Numbering.{width};
 ghost use Rattle.records.specs.Records.{conditions};
 ghost use Rattle.layout.specs.Colours.{flaggedIn, flagged, radicesIn, radices, product, capped, widthAt, idleAt, eventsOf};
 ghost use Rattle.layout.specs.Laid.{Low, Sums, Counted, LaidOut};
@@ -161,6 +164,32 @@ fn events_judged<'a>(table: &'a [u8], events: usize, markers: &'a [u32], users: 
     Judged::Fine(total)
 }
 
+// A counted table held against 13 and 14; fine: the number of its events.
+fn within_limits<'a>(
+    table: &'a [u8],
+    events: usize,
+    markers: &'a [u32],
+    users: &'a [u32],
+    bases: &'a [u32],
+) -> Judged
+    requires { ⌜ judgeOf (now table) ≡ Fine events ⌝ }
+    requires { ⌜ Counted (now table) (now markers) (now users) ⌝ }
+    requires { ⌜ Sums (width (netOf (now table))) (netOf (now table) .conditions) (now bases) ⌝ }
+    ensures { λ r. ⌜ LaidOut (now (table .entry)) r (now (markers .entry)) (now (users .entry)) (now (bases .entry)) ⌝ }
+{
+    let t = events_judged(table, events, markers, users);
+    let Judged::Fine(total) = t else {
+        return t;
+    };
+    if refusal::MOST_UNFOLDED < tally::number(bases, words::word(table, 0) as usize) {
+        return refusal::refused(14, 0);
+    }
+    if (refusal::MOST_UNFOLDED as usize) < total {
+        return refusal::refused(14, 0);
+    }
+    Judged::Fine(events)
+}
+
 // A table laid out for its unfolding: judged, its numbers written where they are lent, then 13 and 14; fine: the number of its events.
 pub fn lay_out(table: &[u8], markers: &mut [u32], users: &mut [u32], bases: &mut [u32]) -> Judged
     requires { ⌜ (length (now markers) ≡ 256) × (length (now users) ≡ 256) × (length (now bases) ≡ 257) ⌝ }
@@ -173,15 +202,5 @@ pub fn lay_out(table: &[u8], markers: &mut [u32], users: &mut [u32], bases: &mut
     tally::tally(table, events, true, 1, markers);
     tally::tally(table, events, false, 0, users);
     sums(table, &markers[..], &users[..], bases);
-    let t = events_judged(table, events, &markers[..], &users[..]);
-    let Judged::Fine(total) = t else {
-        return t;
-    };
-    if refusal::MOST_UNFOLDED < tally::number(&bases[..], words::word(table, 0) as usize) {
-        return refusal::refused(14, 0);
-    }
-    if (refusal::MOST_UNFOLDED as usize) < total {
-        return refusal::refused(14, 0);
-    }
-    Judged::Fine(events)
+    within_limits(table, events, &markers[..], &users[..], &bases[..])
 }
