@@ -58,6 +58,10 @@ more bound d small n h = go (decLe n 9)
     go (yes p) = omega (arith, one-digit-long n (omega arith))
     go (no p) = omega (arith, last-digit-long n (omega arith), small (n / 10) (omega arith))
 
+-- A number of two bytes has at most five digits.
+pub five : (n : ℕ) → n < 100000 → length (decimal n) ≤ 5
+five = more _ 4 (more _ 3 (more _ 2 (more _ 1 (λ n h. omega (arith, one-digit-long n h)))))
+
 -- A number of eight bytes has at most twenty digits.
 pub twenty : (n : ℕ) → n < 100000000000000000000 → length (decimal n) ≤ 20
 twenty =

@@ -16,7 +16,7 @@ pieces zero l from = []
 pieces (suc k) l from = morePiece l from ++ pieces k l (nextOf l from)
 
 -- A part that ends where the next begins.
-parted : (l : List ℕ) (from : ℕ) → from ≤ length l → commas (holding (marking l) from (length l - from)) ≡ morePiece l from ++ commas (holding (marking l) (nextOf l from) (length l - nextOf l from))
+pub parted : (l : List ℕ) (from : ℕ) → from ≤ length l → commas (holding (marking l) from (length l - from)) ≡ morePiece l from ++ commas (holding (marking l) (nextOf l from) (length l - nextOf l from))
 unfolding morePiece
 parted l from h =
     let upto : ℕ = nextOf l from in

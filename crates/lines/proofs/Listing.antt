@@ -1,0 +1,118 @@
+-- The theorem: what is opened and then written piece by piece is the listing of the two files.
+use Prim.Native.Nat.{ℕ, _≤_}
+use mathlib.Core.Path.{_≡_, refl, sym, ap, _∙_}
+use mathlib.Core.List.{List}
+use lib.Dec.{T}
+use lib.ListN.{length}
+use Rattle.model.specs.Net.{Net, begin}
+use Rattle.model.specs.Runs.{runs, end, opening, replay}
+use Rattle.model.specs.Unfolding.{basic}
+use mathlib.Core.Option.{none}
+use Rattle.model.specs.Across as across
+use Rattle.model.specs.Across.{numberOf, placeOf, Answer, run, refusal, unless, stuck, mostSteps, mostUnfolded, tooLong, unfoldingRefused, earliest, repeated, again, lifted, lifting, lift}
+use Rattle.model.proofs.Answers.{unless-run, not-stuck, short-length}
+use Rattle.model.proofs.Limits.{unfolds-exactly, within-exactly}
+use Rattle.model.proofs.Demands.{lift-project}
+use Rattle.refusal.specs.declared.Refusal.{Refusal}
+use Rattle.refusal.specs.declared.Judged.{Judged}
+use Rattle.refusal.specs.declared.Judged.the-variants.{Fine, Refused}
+use Rattle.refusal.specs.Answer.{refusedAt, andThen}
+use Rattle.table.specs.Walk.{judgeOf}
+use Rattle.table.specs.Decoded.{netOf}
+use Rattle.table.proofs.Sound.{accepted-sound}
+use Rattle.runs.specs.Runs.{runOf}
+use Rattle.across.specs.Calls.{fitted, ended}
+use Rattle.lift.specs.Calls.{liftOf}
+use Rattle.ends.specs.Calls.{unfoldedReplayOf}
+use Rattle.ends.proofs.Written.{fitting-room}
+use Rattle.listing.specs.Text.{refusedLine}
+use Rattle.listing.specs.Calls.{filesOf}
+use Rattle.listing.specs.Whole.{linesOf, liftedLines, judgedLines, listingOf}
+use Rattle.lines.specs.declared.Place.the-variants.{Start}
+use Rattle.lines.specs.Places.{restOf}
+use Rattle.lines.specs.Opening.{liftedRun, startBytes, endBytes, reachOf, openOf}
+use Rattle.lines.proofs.Opening.{files-fine, lift-length}
+use Rattle.lines.proofs.Whole.{start-text}
+
+-- What a lift that is a run tells of the run and of the limits.
+module _ (n : Net) (r w : List ℕ) (a : lift n r ≡ run w) where
+  after-length : (tooLong r ≡ none) × (unless (unfoldingRefused n) (lifting n (earliest n) 0 (opening n) r) ≡ run w)
+  unfolding lift
+  after-length = unless-run (tooLong r) (unless (unfoldingRefused n) (lifting n (earliest n) 0 (opening n) r)) w a
+
+  after-limits : (unfoldingRefused n ≡ none) × (lifting n (earliest n) 0 (opening n) r ≡ run w)
+  after-limits = unless-run (unfoldingRefused n) (lifting n (earliest n) 0 (opening n) r) w (after-length .1)
+
+  few-steps : length w ≤ mostSteps
+  few-steps = rw (lift-length n r w a) (short-length r (after-length .0))
+
+  few-unfolded : basic n .conditions ≤ mostUnfolded
+  few-unfolded = within-exactly n .0 (unfolds-exactly n .0 (after-limits .0) .1) .0
+
+  is-run : T (runs n (begin n) r)
+  unfolding lifting opening
+  is-run =
+      not-stuck n 0 (opening n) r
+      (unless-run (stuck (replay n 0 (opening n) r)) (unless (again (repeated n (earliest n) 0 (opening n) r)) (run (lifted n (earliest n) (opening n) r))) w (after-limits .1) .0)
+
+-- A run that lifts is opened; one that does not is refused as its lift is.
+module _ (s r : List ℕ) (n : ℕ) (j : judgeOf s ≡ Fine n) where
+  module _ (w : List ℕ) (a : lift (netOf s) r ≡ run w) where
+    lift-fits : liftOf s r mostSteps ≡ Fine (length w)
+    unfolding liftOf fitted
+    lift-fits = rw (j, a) (sym (fitting-room (length w) mostSteps (few-steps (netOf s) r w a)))
+
+    numbers : liftedRun s r ≡ w
+    unfolding liftedRun
+    numbers = rw a
+
+    end-fits : unfoldedReplayOf s w mostUnfolded ≡ Fine (basic (netOf s) .conditions)
+    unfolding unfoldedReplayOf ended
+    end-fits =
+        rw (j, lift-project (netOf s) r w a) (sym (fitting-room (basic (netOf s) .conditions) mostUnfolded (few-unfolded (netOf s) r w a)))
+
+    reach-fine : reachOf s r ≡ Fine (basic (netOf s) .conditions)
+    unfolding reachOf
+    reach-fine = rw (lift-fits, numbers, end-fits)
+
+    text-lines : restOf (netOf s) r (liftedRun s r) (endBytes s r) (startBytes s) Start ≡ linesOf (netOf s) r w
+    unfolding startBytes endBytes linesOf
+    text-lines =
+        start-text (netOf s) r (liftedRun s r) (endBytes s r) (accepted-sound s n j) (ap length numbers ∙ lift-length (netOf s) r w a)
+        (end (basic (netOf s)) (begin (basic (netOf s))) (liftedRun s r)) (is-run (netOf s) r w a) refl
+        ∙ ap (linesOf (netOf s) r) numbers
+
+  reach-refused : {x : across.Refusal} → lift (netOf s) r ≡ refusal x → reachOf s r ≡ refusedAt (numberOf x) (placeOf x)
+  unfolding reachOf liftOf fitted
+  reach-refused a = rw (j, a)
+
+-- The text from the start on, as opening leaves what it is written from.
+abbrev pub textOfFiles : List ℕ → List ℕ → List ℕ
+textOfFiles s r = restOf (netOf s) (runOf r) (liftedRun s (runOf r)) (endBytes s (runOf r)) (startBytes s) Start
+
+module _ (s r : List ℕ) where
+  by-lift : (n count : ℕ) → judgeOf s ≡ Fine n → (a : Answer) → lift (netOf s) (runOf r) ≡ a
+      → judgedLines (andThen (reachOf s (runOf r)) (λ _. Fine count)) (textOfFiles s r) ≡ liftedLines (netOf s) (runOf r) a
+  unfolding judgedLines liftedLines
+  by-lift n count j (run w) e = rw (reach-fine s (runOf r) n j w e) (text-lines s (runOf r) n j w e)
+  by-lift n count j (refusal x) e = rw (reach-refused s (runOf r) n j e)
+
+  -- What is opened, and the text from the start on, are the listing (01, Nets to test with: Listing).
+  pub whole-listing : judgedLines (openOf s r) (textOfFiles s r) ≡ listingOf s r
+  unfolding openOf listingOf judgedLines
+  whole-listing = go (filesOf s r mostSteps) refl
+    where
+      go : (a : Judged) → filesOf s r mostSteps ≡ a
+          → judgedLines (andThen a (λ count. andThen (reachOf s (runOf r)) (λ _. Fine count))) (textOfFiles s r) ≡ judgedLines a (liftedLines (netOf s) (runOf r) (lift (netOf s) (runOf r)))
+      go (Refused x) e = refl
+      go (Fine count) e = by-lift (files-fine s r count e .events) count (files-fine s r count e .judged) (lift (netOf s) (runOf r)) refl
+
+  -- Where opening is fine, the text from the start on is the listing.
+  pub listing-written : (count : ℕ) → openOf s r ≡ Fine count → textOfFiles s r ≡ listingOf s r
+  unfolding judgedLines
+  listing-written count e = ap (λ (x : Judged). judgedLines x (textOfFiles s r)) (sym e) ∙ whole-listing
+
+  -- Where it is refused, the line of the refusal is.
+  pub listing-refused : (x : Refusal) → openOf s r ≡ Refused x → refusedLine (x .number) (x .place) ≡ listingOf s r
+  unfolding judgedLines
+  listing-refused x e = ap (λ (x : Judged). judgedLines x (textOfFiles s r)) (sym e) ∙ whole-listing
