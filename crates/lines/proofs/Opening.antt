@@ -277,7 +277,7 @@ module _ (s r : List ℕ) (count events c unfolded : ℕ) (steps lifted offsets 
       let of-end = length-take-le (unfolded - 0) end (omega (arith, h .few, roomy)) in
       record {
         steady = record {
-          playable = record { judged = h .judged; indexed = h .indexed; lents = start-lent; room = omega (arith, start-long) };
+          playable = record { judged = h .judged; indexed = h .indexed; lents = start-lent; room = omega (arith, start-long, conditions-are s events (h .judged), tabled s events (h .judged) .few-conditions) };
           long = start-long;
           beside = of-lifted ∙ sym of-steps;
           short = omega (arith, of-steps, h .short);

@@ -168,7 +168,7 @@ module _ (s : List ℕ) (n : ℕ) (offsets r w l : List ℕ) where
   steady-shown Over h = h
 
   -- What is needed at a place is there at the next.
-  pub ready-next : (end : List ℕ) (p : Place) → Ready s n offsets r w end l p → Ready s n offsets r w end (shownAt (netOf s) r l p) (nextAt (length r) end p)
+  ready-next : (end : List ℕ) (p : Place) → Ready s n offsets r w end l p → Ready s n offsets r w end (shownAt (netOf s) r l p) (nextAt (length r) end p)
   ready-next end p h = record { steady = steady-shown p (h .steady); few = h .few; here = next-in (length r) end p }
 
 -- ---- fewer pieces are left
@@ -189,10 +189,27 @@ more-left steps end from d more less = go (ltb from (length end)) refl
     go true e = more (ltb-true from (length end) e)
     go false e = less
 
-pub fewer-left : (steps : ℕ) (end : List ℕ) (p : Place) → goesOn p ≡ true → leftAt steps end (nextAt steps end p) < leftAt steps end p
+fewer-left : (steps : ℕ) (end : List ℕ) (p : Place) → goesOn p ≡ true → leftAt steps end (nextAt steps end p) < leftAt steps end p
 fewer-left steps end Start g = step-left steps end 0 (steps + length end + 5) (λ h. omega arith) (omega arith)
 fewer-left steps end (Step k) g = step-left steps end (k + 1) ((steps - k) + length end + 4) (λ h. omega arith) (omega arith)
 fewer-left steps end End g = more-left steps end (firstIn end + 1) (length end + 3) (λ h. omega arith) (omega arith)
 fewer-left steps end (More from) g = more-left steps end (nextOf end from) ((length end - from) + 2) (λ h. omega arith) (omega arith)
 fewer-left steps end Last g = omega arith
 fewer-left steps end Over g = absurd (let z : _≡_ {A = ℕ} 0 1 = cc in omega arith)
+
+-- ---- what writing at a place answers
+
+module _ (s : List ℕ) (n : ℕ) (offsets r w end l new : List ℕ) (p : Place) (o : Written) (answered : o ≡ writtenAt r w end new p) where
+  next-is : o .next ≡ nextAt (length r) end p
+  unfolding writtenAt
+  next-is = ap (λ (x : Written). x .next) answered
+
+  -- The next place can be written at.
+  pub written-ready : Ready s n offsets r w end l p → new ≡ shownAt (netOf s) r l p → Ready s n offsets r w end new (o .next)
+  written-ready h shown =
+      subst (λ (q : Place). Ready s n offsets r w end new q) (sym next-is)
+      (subst (λ (m : List ℕ). Ready s n offsets r w end m (nextAt (length r) end p)) (sym shown) (ready-next s n offsets r w l end p h))
+
+  -- Fewer pieces are left there.
+  pub written-fewer : goesOn p ≡ true → leftAt (length r) end (o .next) < leftAt (length r) end p
+  written-fewer g = subst (λ (q : Place). leftAt (length r) end q < leftAt (length r) end p) (sym next-is) (fewer-left (length r) end p g)

@@ -244,7 +244,7 @@ fn refused(answer: Judged) -> Opened
 }
 
 // The two files judged in order, the run lifted, the unfolded end reached, the index filled and the marking put to the start.
-pub fn open<'a>(
+pub fn open_files<'a>(
     net: &'a [u8],
     run: &'a [u8],
     steps: &mut [u16],

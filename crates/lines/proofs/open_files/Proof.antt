@@ -2,8 +2,8 @@
 use mathlib.Core.Path.{refl}
 use Rattle.lines.proofs.Opening.{files-refused, read-room, run-refused, never-refused, opened}
 use borrow.Author.Needs.{needs}
-use Rattle.lines.proofs.open.Statement.{statement}
-use Rattle.lines.proofs.open.Tie as tie
+use Rattle.lines.proofs.open_files.Statement.{statement}
+use Rattle.lines.proofs.open_files.Tie as tie
 
 returns : tie.Need-returns
 returns c =
@@ -25,8 +25,8 @@ returns-4 : tie.Need-returns-4
 returns-4 c =
     opened (c .before .before .before .before .before .before .before .before .before .before .before .before .before .before .before .before .before .before .before .before .before .before .before .before .before .before .before .before .before .before .before .before .before .before .before .before .before .args .net .now) (c .before .before .before .before .before .before .before .before .before .before .before .before .before .before .before .before .before .before .before .before .before .before .before .before .before .before .before .before .before .before .before .before .before .before .before .before .before .args .run .now) (c .before .before .before .before .before .before .before .before .before .before .before .before .before .before .before .before .before .before .before .before .before .before .before .before .before .before .before .before .before .before .before .before .before .before .before .before .before .args .steps .now) (c .before .before .before .before .before .before .before .before .before .before .before .before .before .before .before .before .before .before .before .before .before .before .before .before .before .before .before .before .read-files .last .1 .1 .0) (c .before .before .before .before .before .before .before .before .before .before .before .before .before .before .before .before .before .before .before .before .before .before .before .before .before .before .before .before .read-files .result) (c .before .before .before .before .before .before .before .before .before .before .before .before .before .before .before .before .before .before .before .before .before .before .before .before .before .before .before .before .before .before .before .before .before .before .before .before .before .pre .many) (c .before .before .before .before .before .before .before .before .before .before .before .before .before .before .before .before .before .before .before .before .before .before .before .before .before .before .before .before .read-files .ensures .0) (c .before .before .before .before .before .before .before .before .before .before .before .before .before .before .before .before .before .before .before .before .before .before .before .before .before .before .before .before .read-files .ensures .1) _ (c .before .before .before .before .before .before .before .before .before .before .before .before .before .before .before .before .before .before .before .before .before .before .before .before .read .given .1) (c .before .before .before .before .before .before .before .before .before .before .before .before .before .before .before .before .before .before .reach-end .result) (c .before .before .before .before .before .before .before .before .before .before .before .before .before .before .before .before .before .before .reach-end .last .1 .1 .0) (c .before .before .before .before .before .before .before .before .before .before .before .before .before .before .before .before .before .before .reach-end .last .1 .1 .1 .0) (c .before .before .before .before .before .before .before .before .before .before .before .before .before .before .before .before .before .before .reach-end .ensures) (c .before .before .before .before .before .before .before .before .set-up .result) (c .before .before .before .before .before .before .before .before .set-up .last .1 .0) (c .before .before .before .before .before .before .before .before .set-up .last .1 .1 .0) (c .before .before .before .before .before .before .before .before .set-up .ensures) _ refl (c .before .before .before .before .before .before .before .before .before .before .before .before .reached .given .1) (c .before .before .judged .given .1) (c .word .ensures)
 
-pub open-spec : {M : Type 1} → statement M
-open-spec =
+pub open-files-spec : {M : Type 1} → statement M
+open-files-spec =
     tie.close
     (tie.spec
     (λ c κs. search needs)
