@@ -3,7 +3,7 @@ use Prim.Native.Nat.{ℕ, _≤_}
 use mathlib.Core.Path.{_≡_, refl, sym, ap, _∙_}
 use mathlib.Core.List.{List}
 use lib.Dec.{T}
-use lib.ListN.{length}
+use lib.ListN.{length, take}
 use Rattle.model.specs.Net.{Net, begin}
 use Rattle.model.specs.Runs.{runs, end, opening, replay}
 use Rattle.model.specs.Unfolding.{basic}
@@ -28,9 +28,10 @@ use Rattle.ends.proofs.Written.{fitting-room}
 use Rattle.listing.specs.Text.{refusedLine}
 use Rattle.listing.specs.Calls.{filesOf}
 use Rattle.listing.specs.Whole.{linesOf, liftedLines, judgedLines, listingOf}
+use Rattle.lines.specs.declared.Opened.{Opened}
 use Rattle.lines.specs.declared.Place.the-variants.{Start}
 use Rattle.lines.specs.Places.{restOf}
-use Rattle.lines.specs.Opening.{liftedRun, startBytes, endBytes, reachOf, openOf}
+use Rattle.lines.specs.Opening.{liftedRun, startBytes, endBytes, reachOf, openOf, Opens}
 use Rattle.lines.proofs.Opening.{files-fine, lift-length}
 use Rattle.lines.proofs.Whole.{start-text}
 
@@ -116,3 +117,17 @@ module _ (s r : List ℕ) where
   pub listing-refused : (x : Refusal) → openOf s r ≡ Refused x → refusedLine (x .number) (x .place) ≡ listingOf s r
   unfolding judgedLines
   listing-refused x e = ap (λ (x : Judged). judgedLines x (textOfFiles s r)) (sym e) ∙ whole-listing
+
+-- ---- over the contracts of opening and of writing
+
+module _ (s r : List ℕ) (o : Opened) (steps lifted offsets marking end : List ℕ) (opens : Opens s r o steps lifted offsets marking end) where
+  -- Once the files are opened, what lent memory holds is written to the listing.
+  pub opened-listing : (count : ℕ) → o .answer ≡ Fine count
+      → restOf (netOf s) (take count steps) (take count lifted) (take (o .unfolded) end) (take (o .conditions) marking) Start ≡ listingOf s r
+  opened-listing count e =
+      let h = opens .holds count e in
+      rw (h .run, h .lifts, h .ended, h .begun) (listing-written s r count (sym (opens .told) ∙ e))
+
+  -- A refusal's line is the listing.
+  pub opened-refused : (x : Refusal) → o .answer ≡ Refused x → refusedLine (x .number) (x .place) ≡ listingOf s r
+  opened-refused x e = listing-refused s r x (sym (opens .told) ∙ e)

@@ -20,8 +20,7 @@ use Rattle.replay.proofs.Playing.{fired-marking}
 use Rattle.listing.specs.Text.{newline, endWords, commas, holding, startLine, stepLine, endLine}
 use Rattle.listing.specs.Calls.{heldIn, firstIn, nextOf, firstPiece, morePiece}
 use Rattle.listing.specs.Whole.{stepLines}
-use Rattle.listing.proofs.Lines.{list-parts, no-more}
-use Rattle.listing.proofs.Pieces.{parted}
+use Rattle.listing.proofs.Lines.{list-parts, no-more, parted}
 use Rattle.lines.specs.declared.Place.the-variants.{Start, Step, End, More, Last, Over}
 use Rattle.lines.proofs.Writing.{at-step, past-steps, at-more, past-more}
 use Rattle.lines.specs.Places.{stepFrom, moreFrom, fired, stepText, leftAt, textFrom, restOf}

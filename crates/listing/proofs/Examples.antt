@@ -1,17 +1,41 @@
 -- The document's example, computed by the definition.
 use mathlib.Core.Path.{_≡_, refl}
-use mathlib.Core.List.{[], _∷_}
+use mathlib.Core.List.{List, [], _∷_}
+use Prim.Native.Nat.{ℕ}
 use Rattle.model.specs.Net.{begin, fire}
 use Rattle.model.specs.Runs.{end}
 use Rattle.model.specs.Unfolding.{basic}
 use Rattle.model.specs.Across.{lift}
 use Rattle.model.specs.Examples.{net, one, two, three, four, netA}
+use Rattle.lists.specs.Lists.{fits}
+use Rattle.refusal.specs.Answer.{need, fitting}
+use Rattle.words.specs.Words.{words, bits, countIn}
+use Rattle.records.specs.Records.{headerOf}
+use Rattle.rules.specs.Rules.{conditionsOf, listsOf, eventOf, markingOf}
+use Rattle.table.specs.Walk.{eventsFrom, judgeOf, offsetFrom}
+use Rattle.table.specs.Decoded.{netOf}
+use Rattle.runs.specs.Runs.{stepsIn, readAnswer}
+use Rattle.listing.specs.Calls.{filesOf}
 use Rattle.listing.specs.Text.{decimal, commas, listed, holding, startLine, stepLine, endLine}
-use Rattle.listing.specs.Whole.{stepLines, linesOf, liftedLines}
+use Rattle.listing.specs.Whole.{stepLines, linesOf, liftedLines, judgedLines, listingOf}
 
--- Net A and the run 0, 1, 2, 1 (01, Nets to test with: Listing).
-pub document-example :
-    liftedLines (netA (0 ∷ [])) (0 ∷ 1 ∷ 2 ∷ 1 ∷ []) (lift (netA (0 ∷ [])) (0 ∷ 1 ∷ 2 ∷ 1 ∷ []))
-    ≡ 115 ∷ 116 ∷ 97 ∷ 114 ∷ 116 ∷ 32 ∷ 48 ∷ 10 ∷ 48 ∷ 32 ∷ 48 ∷ 32 ∷ 48 ∷ 32 ∷ 49 ∷ 44 ∷ 50 ∷ 10 ∷ 49 ∷ 32 ∷ 49 ∷ 32 ∷ 50 ∷ 32 ∷ 50 ∷ 44 ∷ 51 ∷ 10 ∷ 50 ∷ 32 ∷ 50 ∷ 32 ∷ 51 ∷ 32 ∷ 49 ∷ 44 ∷ 50 ∷ 10 ∷ 51 ∷ 32 ∷ 49 ∷ 32 ∷ 50 ∷ 32 ∷ 50 ∷ 44 ∷ 51 ∷ 10 ∷ 101 ∷ 110 ∷ 100 ∷ 32 ∷ 117 ∷ 110 ∷ 102 ∷ 111 ∷ 108 ∷ 100 ∷ 101 ∷ 100 ∷ 32 ∷ 51 ∷ 44 ∷ 52 ∷ 10 ∷ []
+-- What is written for net A and the run 0, 1, 2, 1 (01, Nets to test with: Listing).
+abbrev listing : List ℕ
+listing = 115 ∷ 116 ∷ 97 ∷ 114 ∷ 116 ∷ 32 ∷ 48 ∷ 10 ∷ 48 ∷ 32 ∷ 48 ∷ 32 ∷ 48 ∷ 32 ∷ 49 ∷ 44 ∷ 50 ∷ 10 ∷ 49 ∷ 32 ∷ 49 ∷ 32 ∷ 50 ∷ 32 ∷ 50 ∷ 44 ∷ 51 ∷ 10 ∷ 50 ∷ 32 ∷ 50 ∷ 32 ∷ 51 ∷ 32 ∷ 49 ∷ 44 ∷ 50 ∷ 10 ∷ 51 ∷ 32 ∷ 49 ∷ 32 ∷ 50 ∷ 32 ∷ 50 ∷ 44 ∷ 51 ∷ 10 ∷ 101 ∷ 110 ∷ 100 ∷ 32 ∷ 117 ∷ 110 ∷ 102 ∷ 111 ∷ 108 ∷ 100 ∷ 101 ∷ 100 ∷ 32 ∷ 51 ∷ 44 ∷ 52 ∷ 10 ∷ []
+
+-- The net and the run (01, Nets to test with: Listing).
+pub document-example : liftedLines (netA (0 ∷ [])) (0 ∷ 1 ∷ 2 ∷ 1 ∷ []) (lift (netA (0 ∷ [])) (0 ∷ 1 ∷ 2 ∷ 1 ∷ [])) ≡ listing
 unfolding liftedLines linesOf stepLines startLine stepLine endLine listed commas decimal holding begin fire end basic lift net one two three four netA
 document-example = refl
+
+-- ---- the bytes of the two files
+
+abbrev netBytes : List ℕ
+netBytes = 4 ∷ 0 ∷ 1 ∷ 0 ∷ 0 ∷ 0 ∷ 1 ∷ 0 ∷ 10 ∷ 0 ∷ 2 ∷ 0 ∷ 1 ∷ 0 ∷ 2 ∷ 0 ∷ 0 ∷ 0 ∷ 1 ∷ 0 ∷ 2 ∷ 0 ∷ 10 ∷ 0 ∷ 2 ∷ 0 ∷ 2 ∷ 0 ∷ 1 ∷ 0 ∷ 1 ∷ 0 ∷ 2 ∷ 0 ∷ 3 ∷ 0 ∷ 8 ∷ 0 ∷ 2 ∷ 0 ∷ 1 ∷ 0 ∷ 1 ∷ 0 ∷ 3 ∷ 0 ∷ 1 ∷ 0 ∷ 2 ∷ 0 ∷ 3 ∷ 0 ∷ 0 ∷ 0 ∷ []
+
+abbrev runBytes : List ℕ
+runBytes = 8 ∷ 0 ∷ 4 ∷ 0 ∷ 0 ∷ 0 ∷ 1 ∷ 0 ∷ 2 ∷ 0 ∷ 1 ∷ 0 ∷ []
+
+pub file-example : listingOf netBytes runBytes ≡ listing
+unfolding listingOf judgedLines filesOf need judgeOf conditionsOf eventsFrom eventOf listsOf markingOf headerOf fits words bits countIn readAnswer stepsIn fitting netOf offsetFrom liftedLines linesOf stepLines startLine stepLine endLine listed commas decimal holding begin fire end basic lift
+file-example = refl

@@ -3,5 +3,4 @@ pub mod Decimal
 pub mod Held
 pub mod Lines
 pub mod Answers
-pub mod Pieces
 pub mod Examples

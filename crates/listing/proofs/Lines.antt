@@ -11,7 +11,7 @@ use lib.ListN.{length, length-append}
 use Rattle.model.specs.Net.{Marking}
 use Rattle.model.specs.Lent.{marking}
 use Rattle.listing.specs.Text.{decimal, dash, space, newline, commas, listed, holding, stepLine}
-use Rattle.listing.specs.Calls.{heldIn, firstIn, firstPiece}
+use Rattle.listing.specs.Calls.{heldIn, firstIn, nextOf, firstPiece, morePiece}
 use Rattle.listing.proofs.Decimal.{twenty}
 use Rattle.listing.proofs.Held.{after-first, first-then, none-left, holding-both, commas-both, one-holds, one-fails}
 
@@ -87,6 +87,15 @@ spaced-short n h = rw length-append (omega (arith, twenty n h))
 pub no-more : (m : Marking) (b upto : ℕ) → upto ≤ b → commas (holding m b (upto - b)) ≡ []
 unfolding commas
 no-more m b upto h = rw (none-left m b upto h)
+
+-- A part that ends where the next begins.
+pub parted : (l : List ℕ) (from : ℕ) → from ≤ length l → commas (holding (marking l) from (length l - from)) ≡ morePiece l from ++ commas (holding (marking l) (nextOf l from) (length l - nextOf l from))
+unfolding morePiece
+parted l from h =
+    let upto : ℕ = nextOf l from in
+    let both : length l - from ≡ (upto - from) + (length l - upto) = omega arith in
+    let seam : from + (upto - from) ≡ upto = omega arith in
+    rw (both, holding-both (marking l) from (upto - from) (length l - upto), commas-both, seam)
 
 -- ---- lines
 
