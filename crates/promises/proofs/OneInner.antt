@@ -62,6 +62,9 @@ use Rattle.copies.proofs.write_copies.Reads as write-copies
 use Rattle.decided.proofs.decide.Reads as decide
 use Rattle.walking.proofs.test.Reads as ranges-test
 use Rattle.walking.proofs.set_ranges.Reads as set-ranges
+use Rattle.lines.proofs.goes_on.Reads as goes-on
+use Rattle.lines.proofs.write.Reads as write-place
+use Rattle.lines.proofs.write_refused.Reads as write-refused
 
 -- two lists of the same length that read the same at each place
 same-list : (l k : List ℕ) → length l ≡ length k → ((b : ℕ) → b < length l → getD l b 0 ≡ getD k b 0) → l ≡ k
@@ -230,3 +233,17 @@ ranges-test-one κs a r q x y h g = h ∙ sym g
 
 pub set-ranges-one : (κs : _) (a : _) (r q : _) (x y : _) → set-ranges.Learnt κs a r x → set-ranges.Learnt κs a q y → now (x .1 .1 .1 .1 .0) ≡ now (y .1 .1 .1 .1 .0)
 set-ranges-one κs a r q x y h g = h ∙ sym g
+
+-- ---- the pieces of a listing
+
+pub goes-on-one : (κs : _) (a : _) (r q : _) (x y : _) → goes-on.Learnt κs a r x → goes-on.Learnt κs a q y → r ≡ q
+goes-on-one κs a r q x y h g = h ∙ sym g
+
+pub write-refused-one : (κs : _) (a : _) (r q : _) (x y : _) → write-refused.Learnt κs a r x → write-refused.Learnt κs a q y → (r ≡ q) × (now (x .1 .0) ≡ now (y .1 .0))
+write-refused-one κs a r q x y h g = (h .told ∙ sym (g .told), h .stored ∙ sym (g .stored))
+
+pub write-place-one : (κs : _) (a : _) (r q : _) (x y : _) → write-place.Learnt κs a r x → write-place.Learnt κs a q y
+    → (r ≡ q) × (now (x .1 .1 .1 .1 .1 .1 .1 .0) ≡ now (y .1 .1 .1 .1 .1 .1 .1 .0)) × (now (x .1 .1 .1 .1 .1 .1 .1 .1 .0) ≡ now (y .1 .1 .1 .1 .1 .1 .1 .1 .0))
+write-place-one κs a r q x y h g =
+    let m : now (x .1 .1 .1 .1 .1 .1 .1 .0) ≡ now (y .1 .1 .1 .1 .1 .1 .1 .0) = h .0 ∙ sym (g .0) in
+    (h .1 .0 ∙ rw m (sym (g .1 .0)), m, h .1 .1 .stored ∙ rw m (sym (g .1 .1 .stored)))
