@@ -2,5 +2,6 @@
 pub mod Long
 pub mod Writing
 pub mod Whole
+pub mod Rest
 pub mod Opening
 pub mod Listing

@@ -40,7 +40,7 @@ held-bytes c m =
 -- ---- the text from each place on
 
 module _ (n : Net) (r w end : List ℕ) where
-  over-text : (f : ℕ) (l : List ℕ) → textFrom f n r w end l Over ≡ []
+  pub over-text : (f : ℕ) (l : List ℕ) → textFrom f n r w end l Over ≡ []
   unfolding textFrom
   over-text zero l = refl
   over-text (suc f) l = over-text f l

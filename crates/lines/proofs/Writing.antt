@@ -189,7 +189,7 @@ more-left steps end from d more less = go (ltb from (length end)) refl
     go true e = more (ltb-true from (length end) e)
     go false e = less
 
-fewer-left : (steps : ℕ) (end : List ℕ) (p : Place) → goesOn p ≡ true → leftAt steps end (nextAt steps end p) < leftAt steps end p
+pub fewer-left : (steps : ℕ) (end : List ℕ) (p : Place) → goesOn p ≡ true → leftAt steps end (nextAt steps end p) < leftAt steps end p
 fewer-left steps end Start g = step-left steps end 0 (steps + length end + 5) (λ h. omega arith) (omega arith)
 fewer-left steps end (Step k) g = step-left steps end (k + 1) ((steps - k) + length end + 4) (λ h. omega arith) (omega arith)
 fewer-left steps end End g = more-left steps end (firstIn end + 1) (length end + 3) (λ h. omega arith) (omega arith)

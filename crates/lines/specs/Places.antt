@@ -69,7 +69,7 @@ textAt r w end l (More from) = morePiece end from
 textAt r w end l Last = newline ∷ []
 textAt r w end l Over = []
 
--- What writing at a place answers: how many bytes it wrote, and the next place.
+-- What writing at a place answers: how many bytes it wrote, and the next place (01, Nets to test with: Listing).
 unfoldable pub writtenAt : List ℕ → List ℕ → List ℕ → List ℕ → Place → Written
 writtenAt r w end l p = record { count = length (textAt r w end l p); next = nextAt (length r) end p }
 
