@@ -23,7 +23,8 @@ use Rattle.model.proofs.Lent.{marking-bytes, tidy-begin}
 use Rattle.model.proofs.Unfolded.{event-uses}
 use Rattle.model.proofs.Counts.{distinct-users}
 use Rattle.table.specs.Decoded.{netOf}
-use Rattle.tally.proofs.Events.{within-limits, list-read, list-inside}
+use Rattle.tally.specs.Having.{Listed}
+use Rattle.tally.proofs.Events.{within-limits, list-read, list-ascends, list-inside}
 use Rattle.game.specs.declared.Step.the-variants.{Goes, Stops}
 use Rattle.game.specs.declared.Cause.the-variants.{Lacks, Meets}
 use Rattle.game.specs.declared.Failing.{Failing}
@@ -75,6 +76,18 @@ own-kept e (suc p) k = rw (ne-eqb (suc p) 0 (λ z. omega arith)) refl
 kept-marked : (n : Net) (seen : ℕ → Bool) (b p k : ℕ) (t : Bool) → t ≡ mem b (n .start) → cond (eqb p 0) t (seen k) ≡ hasMarked n seen (keptMarker p k) b
 kept-marked n seen b zero k t e = e
 kept-marked n seen b (suc p) k t e = rw (ne-eqb (suc p) 0 (λ z. omega arith)) refl
+
+-- the preconditions of the event, where they are read from its record
+module _ (s us : List ℕ) (at e : ℕ) (begun places kept : List ℕ) (d : Deciding s us at e begun places kept) (pre : List ℕ) (p : pre ≡ prePart s at) where
+  pre-known : words pre ≡ netOf s .preconditions e
+  pre-known = rw (p, d .offset) (list-read s e (d .event) false)
+
+  pub pre-listed : Listed pre
+  pre-listed =
+      record {
+        ascends = rw pre-known (list-ascends s e (d .event) false);
+        inside = λ b t. list-inside s e (d .event) false b (rw pre-known at t);
+      }
 
 module _ (s us : List ℕ) (at e : ℕ) (begun places kept : List ℕ) (d : Deciding s us at e begun places kept) (state seen : List ℕ) where
   abbrev n : Net

@@ -9,6 +9,7 @@ ghost use Rattle.lists.specs.Lists.{failing};
 ghost use Rattle.words.specs.Words.{words};
 ghost use Rattle.model.specs.Lent.{marking};
 ghost use Rattle.table.specs.Decoded.{netOf};
+ghost use Rattle.tally.specs.Having.{Listed, Members};
 ghost use Rattle.game.specs.Steps.{failingOf, stepOf};
 ghost use Rattle.decided.specs.Decided.{stoppedBy};
 ghost use Rattle.decided.specs.Kept.{markerAt, Kept, Keeping, Choosing, Chosen, markedAt, readyAt, backAt, clearAt, Deciding};
@@ -159,11 +160,12 @@ fn gives_back<'a>(
     false
 }
 
-// Whether a postcondition of event e stops no step, where e has occurred before or not.
+// Whether a postcondition of event e stops no step, where e has occurred before or not, and its preconditions are marked.
 fn is_clear<'a>(
     table: &'a [u8],
     users: &'a [u32],
     pre: &'a [u8],
+    taken: &'a [u32],
     e: usize,
     again: bool,
     state: &'a [u8],
@@ -171,6 +173,7 @@ fn is_clear<'a>(
     kept: &'a [u32],
     b: usize,
 ) -> bool
+    requires { ⌜ Members (words (now pre)) (now taken) ⌝ }
     ensures { λ r. ⌜ r ≡ clearAt (now (table .entry)) (now (users .entry)) (words (now (pre .entry))) e again (now (state .entry)) (now (places .entry)) (now (kept .entry)) b ⌝ }
 {
     if layout::is_persistent(table, b) {
@@ -180,12 +183,51 @@ fn is_clear<'a>(
         return true;
     }
     if words::byte(state, b) == 1 {
-        return words::has(pre, b);
+        return tally::number(taken, b) == 1;
     }
     true
 }
 
-// The first postcondition of event e that stops a step.
+// The first postcondition of event e that stops a step, where its preconditions are marked.
+fn first_meeting<'a>(
+    table: &'a [u8],
+    users: &'a [u32],
+    pre: &'a [u8],
+    taken: &'a [u32],
+    post: &'a [u8],
+    e: usize,
+    again: bool,
+    state: &'a [u8],
+    places: &'a [u32],
+    kept: &'a [u32],
+) -> Failing
+    requires { ⌜ Members (words (now pre)) (now taken) ⌝ }
+    ensures { λ r. ⌜ r ≡ failingOf (failing (clearAt (now (table .entry)) (now (users .entry)) (words (now (pre .entry))) e again (now (state .entry)) (now (places .entry)) (now (kept .entry))) (words (now (post .entry)))) ⌝ }
+{
+    let mut i: usize = 0;
+    while 1 < post.len() - i {
+        let b = words::word(post, i);
+        if is_clear(
+            table,
+            users,
+            pre,
+            taken,
+            e,
+            again,
+            state,
+            places,
+            kept,
+            b as usize,
+        ) {
+            i = i + 2;
+        } else {
+            return Failing::At(refusal::TableCondition(b));
+        }
+    }
+    Failing::Nothing
+}
+
+// The first postcondition of event e that stops a step: its preconditions are marked once, so that none is looked up in their list.
 fn first_contact<'a>(
     table: &'a [u8],
     users: &'a [u32],
@@ -197,18 +239,22 @@ fn first_contact<'a>(
     places: &'a [u32],
     kept: &'a [u32],
 ) -> Failing
+    requires { ⌜ Listed (now pre) ⌝ }
     ensures { λ r. ⌜ r ≡ failingOf (failing (clearAt (now (table .entry)) (now (users .entry)) (words (now (pre .entry))) e again (now (state .entry)) (now (places .entry)) (now (kept .entry))) (words (now (post .entry)))) ⌝ }
 {
-    let mut i: usize = 0;
-    while 1 < post.len() - i {
-        let b = words::word(post, i);
-        if is_clear(table, users, pre, e, again, state, places, kept, b as usize) {
-            i = i + 2;
-        } else {
-            return Failing::At(refusal::TableCondition(b));
-        }
-    }
-    Failing::Nothing
+    let taken = tally::members(pre);
+    first_meeting(
+        table,
+        users,
+        pre,
+        &taken,
+        post,
+        e,
+        again,
+        state,
+        places,
+        kept,
+    )
 }
 
 // What stops the step of event e, whose record stands at an offset, with the markers that are kept for its persistent preconditions.

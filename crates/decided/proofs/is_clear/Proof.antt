@@ -18,7 +18,7 @@ returns-2 c =
 returns-3 : tie.Need-returns-3
 unfolding marking
 returns-3 c =
-    simp (← c .before .before .before .before .is-persistent .ensures, c .before .before .before .if1 .left, ← c .before .before .byte .ensures, c .before .if3 .taken, ← c .has .ensures)
+    simp (← c .before .before .before .before .is-persistent .ensures, c .before .before .before .if1 .left, ← c .before .before .byte .ensures, c .before .if3 .taken, c .number .ensures, c .before .before .before .before .before .before .before .before .before .before .before .before .pre (c .before .before .before .before .before .before .before .before .before .before .before .before .args .b))
 
 returns-4 : tie.Need-returns-4
 unfolding marking
