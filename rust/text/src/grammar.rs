@@ -35,7 +35,7 @@ pub enum Statement {
     Conditions(List),
     Event(Element, List, List),
     Start(Place, List),
-    Run(Place, Option<String>, List),
+    Run(Place, Option<(String, Place)>, List),
 }
 
 /// What an element may look like where it stands.
@@ -219,8 +219,9 @@ impl Parser {
 
     /// Takes the rest of a `run` statement.
     fn run(&mut self, place: Place) -> Result<Statement, Trouble> {
+        let named = self.place();
         let name = match self.piece().clone() {
-            Piece::Name(name) => Some(self.name(&name, "a name for the run, or `:`")?),
+            Piece::Name(name) => Some((self.name(&name, "a name for the run, or `:`")?, named)),
             _ => None,
         };
         match name {

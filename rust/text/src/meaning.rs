@@ -28,7 +28,7 @@ impl Names {
             None => Ok(()),
             Some((_, other)) => {
                 let expected = format!("a name that no other {} has", self.of);
-                let found = format!("`{name}`, which stands at {other} too");
+                let found = format!("`{name}`, which stands at {other} already");
                 trouble(place, expected, found)
             }
         }
@@ -183,11 +183,11 @@ impl Meaning {
     fn state_run(
         &mut self,
         place: Place,
-        name: Option<String>,
+        label: &Option<(String, Place)>,
         list: &List,
     ) -> Result<(), Trouble> {
-        if let Some(name) = &name {
-            self.runs.give(name, 0, place)?;
+        if let Some((name, named)) = label {
+            self.runs.give(name, 0, *named)?;
         }
         let step = |element: &Element| match &element.written {
             Written::Name(name) => self.events.number(name, element.place),
@@ -196,7 +196,7 @@ impl Meaning {
         let steps: Vec<u16> = list.elements.iter().map(step).collect::<Result<_, _>>()?;
         fits(steps.len(), MOST_LIST, "steps", list.place)?;
         self.table.runs.push(Run {
-            name,
+            name: label.as_ref().map(|(name, _)| name.clone()),
             steps,
             places: list.elements.iter().map(|e| e.place).collect(),
             place,
@@ -238,7 +238,7 @@ impl Meaning {
                     self.table.start_place = *place;
                     fits(self.table.start.len(), MOST_LIST, "conditions", list.place)?;
                 }
-                Statement::Run(place, name, list) => self.state_run(*place, name.clone(), list)?,
+                Statement::Run(place, label, list) => self.state_run(*place, label, list)?,
             }
         }
         Ok(())

@@ -163,7 +163,7 @@ fn troubles_of_conditions() {
         ("conditions: 5..3", "column 16: expected a number from 5 on, where the range ends, found `3`"),
         ("conditions: 7up", "column 13: expected a number, or a name that begins with a letter, found `7up`"),
         ("conditions: a; b", "column 14: expected a name, a number or one of `{ } , : -> .. [p] #`, found `;`"),
-        ("conditions: a, a", "column 16: expected a name that no other condition has, found `a`, which stands at line 2, column 13 too"),
+        ("conditions: a, a", "column 16: expected a name that no other condition has, found `a`, which stands at line 2, column 13 already"),
     ] {
         let expected = format!("line 2, {expected}");
         assert_eq!(told(format!("start: {}\n{text}", "{}").as_bytes()), expected);
@@ -193,13 +193,13 @@ fn troubles_of_other_statements() {
         ("y: {65536} -> {}", "line 4, column 5: expected a number of at most 65535, found `65536`"),
         ("y: {0..65535} -> {}", "line 4, column 4: expected at most 32765 conditions, which fill a record, found 65536"),
         ("0: {a} -> {}", "line 4, column 1: expected 1, the number of the event that stands here, or a name, found `0`"),
-        ("x: {a} -> {}", "line 4, column 1: expected a name that no other event has, found `x`, which stands at line 2, column 1 too"),
+        ("x: {a} -> {}", "line 4, column 1: expected a name that no other event has, found `x`, which stands at line 2, column 1 already"),
         ("start: {a}", "line 4, column 1: expected one `start:`, found a second one"),
         ("run r: x, z", "line 4, column 11: expected the name or number of an event, found `z`, which is none"),
         ("run r: x, 0..1", "line 4, column 12: expected `,` or the end of the line, found `..`"),
         ("run {x}", "line 4, column 5: expected a name for the run, or `:`, found `{`"),
         ("run run: x", "line 4, column 5: expected a name for the run, or `:`, found `run`, which begins a statement and so names nothing"),
-        ("run r: x\nrun r: x", "line 5, column 1: expected a name that no other run has, found `r`, which stands at line 4, column 1 too"),
+        ("run r: x\nrun  r: x", "line 5, column 6: expected a name that no other run has, found `r`, which stands at line 4, column 5 already"),
         ("run r: x y: {a} -> {}", "line 4, column 10: expected `,` or the end of the line, found `y`"),
         ("run r: x, y: {a} -> {}", "line 4, column 12: expected `,` or the end of the line, found `:`"),
         ("} -> {", "line 4, column 1: expected `conditions:`, `start:`, `run` or an event's name, found `}`"),
