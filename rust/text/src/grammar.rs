@@ -6,6 +6,16 @@ use crate::trouble::{trouble, Place, Trouble};
 /// Words that begin a statement and so name nothing.
 const RESERVED: [&str; 3] = ["conditions", "start", "run"];
 
+/// Why a reserved word is no name, and what would be one.
+fn no_name(word: &str) -> String {
+    format!("is a word of the notation and cannot be a name (`{word}-1` can)")
+}
+
+/// What is expected after a reserved word, told so that who meant the word as a name sees why.
+fn since(expected: &str, word: &str) -> String {
+    format!("{expected}, since `{word}` {}", no_name(word))
+}
+
 /// What an element of a list is written as.
 #[derive(Clone, Debug, PartialEq, Eq)]
 pub enum Written {
@@ -105,19 +115,42 @@ impl Parser {
         }
     }
 
+    /// The reserved word that comes next, if one does.
+    fn reserved(&self) -> Option<&'static str> {
+        match self.piece() {
+            Piece::Name(name) => RESERVED.into_iter().find(|word| word == name),
+            _ => None,
+        }
+    }
+
     /// A statement begins here: a reserved word, or a name or number with a colon.
     fn at_statement(&self) -> bool {
         match self.piece() {
-            Piece::Name(name) if RESERVED.contains(&name.as_str()) => true,
+            Piece::Name(_) if self.reserved().is_some() => true,
             Piece::Name(_) | Piece::Number(_) => self.ahead(1).piece == Piece::Colon,
             _ => false,
         }
     }
 
+    /// What comes so many further on shows that the word before it is meant as an element of a list.
+    fn after_element(&self, by: usize) -> bool {
+        use Piece::{Close, Comma, End, LineEnd, Persistent};
+        let after = &self.ahead(by).piece;
+        matches!(after, Comma | Close | LineEnd | End | Persistent)
+    }
+
+    /// The trouble that something was expected after a reserved word, and why if the word is meant as a name.
+    fn unexpected_after<T>(&self, word: &str, expected: &str) -> Result<T, Trouble> {
+        if self.after_element(0) {
+            return self.unexpected(&since(expected, word));
+        }
+        self.unexpected(expected)
+    }
+
     /// Takes a name that is not a reserved word.
     fn name(&mut self, name: &str, expected: &str) -> Result<String, Trouble> {
-        if RESERVED.contains(&name) {
-            let found = format!("`{name}`, which begins a statement and so names nothing");
+        if let Some(word) = self.reserved() {
+            let found = format!("`{word}`, which {}", no_name(word));
             return trouble(self.place(), expected, found);
         }
         self.at += 1;
@@ -198,7 +231,9 @@ impl Parser {
         self.skip_lines();
         let mut elements = Vec::new();
         while !self.took(&Piece::Close) {
-            if self.on_new_line() && (self.at_statement() || *self.piece() == Piece::End) {
+            let ended =
+                *self.piece() == Piece::End || self.at_statement() && !self.after_element(1);
+            if self.on_new_line() && ended {
                 return self.unexpected(&format!("`}}` for the `{{` at {place}"));
             }
             elements.push(self.element(Form::Reference)?);
@@ -209,12 +244,46 @@ impl Parser {
         Ok(List { elements, place })
     }
 
+    /// Takes the colon that a reserved word needs.
+    fn colon_after(&mut self, word: &str) -> Result<(), Trouble> {
+        if self.took(&Piece::Colon) {
+            return Ok(());
+        }
+        self.unexpected_after(word, "`:`")
+    }
+
+    /// Takes the colon that a reserved word needs, and its list without braces.
+    fn list_after(&mut self, word: &str, form: Form) -> Result<List, Trouble> {
+        self.colon_after(word)?;
+        if *self.piece() == Piece::Open {
+            return self.unexpected(&since(form.told(), word));
+        }
+        self.open_list(form)
+    }
+
     /// Takes the end of a statement's line.
     fn line_end(&mut self) -> Result<(), Trouble> {
         match self.piece() {
             Piece::End | Piece::LineEnd => Ok(()),
             _ => self.unexpected("the end of the line"),
         }
+    }
+
+    /// Takes the rest of a `conditions` statement.
+    fn conditions(&mut self) -> Result<Statement, Trouble> {
+        let list = self.list_after("conditions", Form::Condition)?;
+        Ok(Statement::Conditions(list))
+    }
+
+    /// Takes the rest of a `start` statement.
+    fn start(&mut self, place: Place) -> Result<Statement, Trouble> {
+        self.colon_after("start")?;
+        let list = self.set()?;
+        if *self.piece() == Piece::Arrow {
+            return self.unexpected(&since("the end of the line", "start"));
+        }
+        self.line_end()?;
+        Ok(Statement::Start(place, list))
     }
 
     /// Takes the rest of a `run` statement.
@@ -224,13 +293,11 @@ impl Parser {
             Piece::Name(name) => Some((self.name(&name, "a name for the run, or `:`")?, named)),
             _ => None,
         };
-        match name {
-            None if *self.piece() != Piece::Colon => self.unexpected("a name for the run, or `:`"),
-            _ => {
-                self.need(&Piece::Colon)?;
-                Ok(Statement::Run(place, name, self.open_list(Form::Step)?))
-            }
+        if name.is_none() && *self.piece() != Piece::Colon {
+            return self.unexpected_after("run", "a name for the run, or `:`");
         }
+        let list = self.list_after("run", Form::Step)?;
+        Ok(Statement::Run(place, name, list))
     }
 
     /// Takes an event: its name or number, and its two lists.
@@ -260,24 +327,14 @@ impl Parser {
     /// Takes a statement.
     fn statement(&mut self) -> Result<Statement, Trouble> {
         let place = self.place();
-        let word = match self.piece() {
-            Piece::Name(name) => name.clone(),
-            _ => String::new(),
-        };
-        if !RESERVED.contains(&word.as_str()) {
-            return self.event();
+        let word = self.reserved();
+        self.at += usize::from(word.is_some());
+        match word {
+            Some("conditions") => self.conditions(),
+            Some("start") => self.start(place),
+            Some(_) => self.run(place),
+            None => self.event(),
         }
-        self.at += 1;
-        if word == "run" {
-            return self.run(place);
-        }
-        self.need(&Piece::Colon)?;
-        if word == "conditions" {
-            return Ok(Statement::Conditions(self.open_list(Form::Condition)?));
-        }
-        let list = self.set()?;
-        self.line_end()?;
-        Ok(Statement::Start(place, list))
     }
 }
 

@@ -159,7 +159,7 @@ fn troubles_of_conditions() {
         ("conditions: a,, b", "column 15: expected the name or number of a condition, found `,`"),
         ("conditions: a, 2", "column 16: expected 1, the number of the condition that stands here, or a name, found `2`"),
         ("conditions: 0..3, 3", "column 19: expected 4, the number of the condition that stands here, or a name, found `3`"),
-        ("conditions: start", "column 13: expected the name or number of a condition, found `start`, which begins a statement and so names nothing"),
+        ("conditions: start", "column 13: expected the name or number of a condition, found `start`, which is a word of the notation and cannot be a name (`start-1` can)"),
         ("conditions: 5..3", "column 16: expected a number from 5 on, where the range ends, found `3`"),
         ("conditions: 7up", "column 13: expected a number, or a name that begins with a letter, found `7up`"),
         ("conditions: a; b", "column 14: expected a name, a number or one of `{ } , : -> .. [p] #`, found `;`"),
@@ -198,13 +198,65 @@ fn troubles_of_other_statements() {
         ("run r: x, z", "line 4, column 11: expected the name or number of an event, found `z`, which is none"),
         ("run r: x, 0..1", "line 4, column 12: expected `,` or the end of the line, found `..`"),
         ("run {x}", "line 4, column 5: expected a name for the run, or `:`, found `{`"),
-        ("run run: x", "line 4, column 5: expected a name for the run, or `:`, found `run`, which begins a statement and so names nothing"),
         ("run r: x\nrun  r: x", "line 5, column 6: expected a name that no other run has, found `r`, which stands at line 4, column 5 already"),
         ("run r: x y: {a} -> {}", "line 4, column 10: expected `,` or the end of the line, found `y`"),
         ("run r: x, y: {a} -> {}", "line 4, column 12: expected `,` or the end of the line, found `:`"),
         ("} -> {", "line 4, column 1: expected `conditions:`, `start:`, `run` or an event's name, found `}`"),
     ] {
         assert_eq!(told(format!("{before}{statement}").as_bytes()), expected);
+    }
+}
+
+#[test]
+fn a_word_of_the_notation_is_no_name() {
+    for word in ["conditions", "start", "run"] {
+        let why = format!("is a word of the notation and cannot be a name (`{word}-1` can)");
+        let found = format!("found `{word}`, which {why}");
+        let since = format!("since `{word}` {why}, found");
+        for (text, place, said) in [
+            (
+                format!("conditions: a, {word}"),
+                "line 1, column 16",
+                &found,
+            ),
+            (
+                format!("conditions:\n  {word}\n  a"),
+                "line 2, column",
+                &since,
+            ),
+            (
+                format!("conditions:\n  {word} [p], a"),
+                "line 2, column",
+                &since,
+            ),
+            (format!("{word}: {{a}} -> {{}}"), "line 1, column", &since),
+            (
+                format!("x: {{a, {word}}} -> {{}}"),
+                "line 1, column 8",
+                &found,
+            ),
+            (
+                format!("x: {{\n  a,\n  {word},\n}} -> {{}}"),
+                "line 3, column 3",
+                &found,
+            ),
+            (
+                format!("x: {{\n  a\n  {word}\n}} -> {{}}"),
+                "line 3, column 3",
+                &found,
+            ),
+            (format!("run {word}: x"), "line 1, column 5", &found),
+            (format!("run r: x, {word}"), "line 1, column 11", &found),
+            (format!("run r:\n  x\n  {word}\n"), "line 3, column", &since),
+        ] {
+            let told = told(text.as_bytes());
+            assert!(
+                told.starts_with(place) && told.contains(said),
+                "{text}\n{told}"
+            );
+        }
+        let other = format!("conditions: {word}-1\n{word}-1: {{}} -> {{{word}-1}}\nstart: {{}}");
+        assert_eq!(table(&other).condition_name(0), format!("{word}-1"));
     }
 }
 
