@@ -2,6 +2,7 @@
 
 mod grammar;
 mod meaning;
+mod near;
 mod records;
 mod show;
 mod table;
@@ -9,6 +10,7 @@ mod tokens;
 mod trouble;
 
 pub use meaning::read;
+pub use near::nearest;
 pub use records::{steps_of, Part};
 pub use show::{list_text, set_text};
 pub use table::{Condition, Event, Run, Table};

@@ -3,6 +3,7 @@
 use std::collections::{BTreeMap, BTreeSet};
 
 use crate::grammar::{statements, Element, List, Statement, Written};
+use crate::near::nearest;
 use crate::records::{MOST_EVENT_LISTS, MOST_LIST, MOST_NUMBERED};
 use crate::table::{Condition, Event, Run, Table};
 use crate::trouble::{trouble, Place, Trouble};
@@ -40,19 +41,11 @@ impl Names {
             return Ok(*number);
         }
         let expected = format!("the name or number of {} {}", article(self.of), self.of);
-        let found = match self.nearest(name) {
+        let found = match nearest(name, self.known.keys().map(String::as_str)) {
             Some(near) => format!("`{name}`, which is none (is `{near}` meant?)"),
             None => format!("`{name}`, which is none"),
         };
         trouble(place, expected, found)
-    }
-
-    /// The name that differs least from a mistyped one, if it differs little.
-    fn nearest(&self, name: &str) -> Option<&String> {
-        let by_changes = |known: &&String| changes(name, known);
-        let near = self.known.keys().min_by_key(by_changes)?;
-        let few = (name.chars().count() + 1) / 3;
-        (changes(name, near) <= few).then_some(near)
     }
 }
 
@@ -63,22 +56,6 @@ fn article(word: &str) -> &'static str {
     } else {
         "a"
     }
-}
-
-/// How many characters must be put in, left out or changed to come from one word to the other.
-fn changes(from: &str, to: &str) -> usize {
-    let to: Vec<char> = to.chars().collect();
-    let mut row: Vec<usize> = (0..=to.len()).collect();
-    for (i, a) in from.chars().enumerate() {
-        let mut corner = row[0];
-        row[0] = i + 1;
-        for (j, b) in to.iter().enumerate() {
-            let changed = corner + usize::from(a != *b);
-            corner = row[j + 1];
-            row[j + 1] = changed.min(row[j] + 1).min(corner + 1);
-        }
-    }
-    row[to.len()]
 }
 
 /// The number of the next of so many things, or the trouble that records have no room for it.

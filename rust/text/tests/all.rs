@@ -261,6 +261,35 @@ fn a_word_of_the_notation_is_no_name() {
 }
 
 #[test]
+fn the_nearest_known_name_is_told() {
+    let table = "conditions: on, set, key-loaded, größe\nstart: {}\n";
+    for (wrong, near) in [
+        ("no", "on"),
+        ("ste", "set"),
+        ("key-laoded", "key-loaded"),
+        ("ky-loadde", "key-loaded"),
+        ("grösse", "größe"),
+    ] {
+        let said = format!("found `{wrong}`, which is none (is `{near}` meant?)");
+        let told = told(format!("{table}x: {{{wrong}}} -> {{}}").as_bytes());
+        assert!(told.ends_with(&said), "{told}");
+    }
+    for wrong in ["off", "tes", "o", "loaded"] {
+        let told = told(format!("{table}x: {{{wrong}}} -> {{}}").as_bytes());
+        assert!(told.ends_with("which is none"), "{told}");
+    }
+    let run = told(format!("{table}seal: {{}} -> {{on}}\nrun: sael").as_bytes());
+    assert!(
+        run.ends_with("found `sael`, which is none (is `seal` meant?)"),
+        "{run}"
+    );
+    assert_eq!(
+        text::nearest(&"a".repeat(101), ["a".repeat(101).as_str()].into_iter()),
+        None
+    );
+}
+
+#[test]
 fn columns_count_characters() {
     let text = "conditions: größe, größe";
     assert!(told(format!("{text}\nstart: {{}}").as_bytes())
