@@ -1,11 +1,13 @@
 //! The words of the command.
 
+use std::path::Path;
+
 use crate::stop::{Stop, Stopped};
 
 /// What the command asks for.
 #[derive(Debug, PartialEq, Eq)]
 pub enum Asked {
-    Help,
+    Help(String),
     List(Option<String>, Option<String>),
     Judge(String),
     Unfold(String),
@@ -34,15 +36,70 @@ dovetrellis: net tables with persistent conditions
   dovetrellis show TABLE [RUN...] write a table, and runs of it, as text that packs to the same bytes.
                                   RUN is a file; the runs of a text table are written anyway
   dovetrellis build [WHAT...]     build 'library' and 'list' now; other commands build what they need
-  dovetrellis help                this
+  dovetrellis help [COMMAND]      this, or what it says of one command
 
 TABLE is a file of records (docs/FORMAT.md) or a text table (docs/TEXT.md); its bytes tell which.
 What is refused is answered by one line, 'refused NUMBER at PLACE', and what that means is said
 beside it, on the error output (docs/REFUSALS.md has the list).
 
-Exit status: 0 fine; 1 refused, or a text that is no table; 2 wrong use, or something that is
-needed could not be read or built.
+Exit status: 0 fine; 1 refused, or a text that is no table; 2 wrong use (no word at all is wrong use
+too), or something that is needed could not be read or built.
 ";
+
+/// The commands, 'build' among them, which the script does itself.
+const COMMANDS: [&str; 7] = ["list", "judge", "unfold", "pack", "show", "build", "help"];
+
+/// The words that ask for help.
+const HELPS: [&str; 3] = ["help", "-h", "--help"];
+
+/// What the help says of one command, and of all.
+fn help_of(command: &str) -> String {
+    let begins = |line: &&str| line.starts_with("  dovetrellis ");
+    let own = format!("  dovetrellis {command} ");
+    let mut lines = HELP.lines().skip_while(|line| !line.starts_with(&own));
+    let first = lines.next().unwrap_or_default();
+    let more = lines.take_while(|line| !begins(line) && !line.is_empty());
+    let said: Vec<&str> = [first].into_iter().chain(more).collect();
+    let of_all: Vec<&str> = HELP.split("\n\n").skip(2).collect();
+    format!("{}\n\n{}", said.join("\n"), of_all.join("\n\n"))
+}
+
+/// There is no such command; the one that is likely meant is named.
+fn unknown<T>(word: &str) -> Stopped<T> {
+    let plain = word.trim_start_matches('-').to_lowercase();
+    let meant = match text::nearest(&plain, COMMANDS.into_iter()) {
+        Some(near) => format!(" (is '{near}' meant?)"),
+        None if word.starts_with('-') => " and no such option".to_string(),
+        None if Path::new(word).exists() => format!("; for the file: 'judge {word}'"),
+        None => String::new(),
+    };
+    Err(Stop::Use(format!("there is no command '{word}'{meant}")))
+}
+
+/// What the words after 'help' ask for.
+fn asked_help(words: &[String]) -> Stopped<Asked> {
+    let Some((command, rest)) = words.split_first() else {
+        return Ok(Asked::Help(HELP.to_string()));
+    };
+    nothing_after(rest)?;
+    match COMMANDS.contains(&command.as_str()) {
+        true => Ok(Asked::Help(help_of(command))),
+        false => unknown(command),
+    }
+}
+
+/// None of the words is an option, since all of them are files and names.
+fn no_options(words: &[String]) -> Stopped<()> {
+    match words.iter().find(|word| word.starts_with('-')) {
+        None => Ok(()),
+        Some(word) if word == "-" => Err(Stop::Use(
+            "'-' is no file; the standard input is /dev/stdin".to_string(),
+        )),
+        Some(word) => Err(Stop::Use(format!(
+            "there is no option '{word}' here; a file of that name is './{word}'"
+        ))),
+    }
+}
 
 /// The words after the command's name are one, two or more: the first, and the others.
 fn first<'a>(words: &'a [String], what: &str) -> Stopped<(&'a String, &'a [String])> {
@@ -74,6 +131,7 @@ fn asked_pack(words: &[String]) -> Stopped<Asked> {
             others.push(word.clone());
         }
     }
+    no_options(&others)?;
     let (file, rest) = first(&others, "FILE")?;
     nothing_after(rest)?;
     Ok(Asked::Pack(
@@ -85,27 +143,45 @@ fn asked_pack(words: &[String]) -> Stopped<Asked> {
 /// What the words ask for.
 pub fn asked(words: &[String]) -> Stopped<Asked> {
     let Some((command, rest)) = words.split_first() else {
-        return Ok(Asked::Help);
+        return Err(Stop::Unasked);
     };
-    match command.as_str() {
-        "help" | "-h" | "--help" => Ok(Asked::Help),
+    if HELPS.contains(&command.as_str()) {
+        return asked_help(rest);
+    }
+    if !COMMANDS.contains(&command.as_str()) {
+        return unknown(command);
+    }
+    if rest.iter().any(|word| word == "-h" || word == "--help") {
+        return Ok(Asked::Help(help_of(command)));
+    }
+    asked_of(command, rest)
+}
+
+/// What the words after a command ask for.
+fn asked_of(command: &str, rest: &[String]) -> Stopped<Asked> {
+    match command {
+        "pack" => asked_pack(rest),
         "list" => {
+            no_options(rest)?;
             nothing_after(rest.get(2..).unwrap_or_default())?;
             Ok(Asked::List(rest.first().cloned(), rest.get(1).cloned()))
         }
-        "judge" | "unfold" => {
-            let (table, rest) = first(rest, "TABLE")?;
-            nothing_after(rest)?;
-            Ok(match command.as_str() {
-                "judge" => Asked::Judge(table.clone()),
-                _ => Asked::Unfold(table.clone()),
-            })
-        }
-        "pack" => asked_pack(rest),
-        "show" => {
-            let (table, runs) = first(rest, "TABLE")?;
-            Ok(Asked::Show(table.clone(), runs.to_vec()))
-        }
-        _ => Err(Stop::Use(format!("there is no command '{command}'"))),
+        "build" => Err(Stop::Use("only the script builds".to_string())),
+        _ => asked_of_table(command, rest),
+    }
+}
+
+/// What the words after a command that needs a table ask for.
+fn asked_of_table(command: &str, rest: &[String]) -> Stopped<Asked> {
+    no_options(rest)?;
+    let (table, rest) = first(rest, "TABLE")?;
+    let table = table.clone();
+    if command == "show" {
+        return Ok(Asked::Show(table, rest.to_vec()));
+    }
+    nothing_after(rest)?;
+    match command {
+        "judge" => Ok(Asked::Judge(table)),
+        _ => Ok(Asked::Unfold(table)),
     }
 }

@@ -4,14 +4,14 @@ use std::ffi::OsString;
 use std::io::{self, Write};
 use std::process::ExitCode;
 
-use command::asked::{asked, Asked, HELP};
+use command::asked::{asked, Asked};
 use command::stop::{Stop, Stopped};
 use command::{judge, list, pack, unfold};
 
 /// Does what is asked; the answer goes to the given output.
 fn act(asked: Asked, out: &mut impl Write) -> Stopped<()> {
     match asked {
-        Asked::Help => Ok(out.write_all(HELP.as_bytes())?),
+        Asked::Help(said) => Ok(out.write_all(said.as_bytes())?),
         Asked::List(table, run) => list::list(table.as_deref(), run.as_deref(), out),
         Asked::Judge(table) => judge::judge(&table, out),
         Asked::Unfold(table) => unfold::unfold(&table, out),

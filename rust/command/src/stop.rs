@@ -4,6 +4,8 @@ use std::io::{self, Write};
 
 use wire::Refusal;
 
+use crate::asked::HELP;
+
 /// A refusal in words: what its number means, and what its place is.
 #[derive(Clone, Debug, PartialEq, Eq)]
 pub struct Told {
@@ -33,6 +35,8 @@ pub enum Stop {
     Text(String),
     /// The words of the command are wrong.
     Use(String),
+    /// There is no word that asks for anything.
+    Unasked,
     /// Something that is needed could not be read, written, built or asked.
     Failed(String),
     /// Nobody reads the answer any more.
@@ -55,6 +59,7 @@ impl Stop {
             Stop::Use(line) => {
                 eprintln!("dovetrellis: {line}\n'dovetrellis help' tells the commands")
             }
+            Stop::Unasked => eprint!("{HELP}"),
             Stop::Unread => {}
         }
     }
@@ -64,7 +69,7 @@ impl Stop {
         match self {
             Stop::Unread => 0,
             Stop::Refused(..) | Stop::Text(_) => 1,
-            Stop::Use(_) | Stop::Failed(_) => 2,
+            Stop::Use(_) | Stop::Unasked | Stop::Failed(_) => 2,
         }
     }
 }

@@ -83,9 +83,15 @@ const LISTING: &str = "start 0\n0 0 0 1,2\n1 1 2 2,3\n2 2 3 1,2\n3 1 2 2,3\nend 
 #[test]
 fn help_and_wrong_use() {
     assert!(fine(&["help"]).contains("dovetrellis judge TABLE"));
-    assert_eq!(fine(&[]), fine(&["--help"]));
+    assert_eq!(ends(&[], 2), fine(&["--help"]));
     for (words, said) in [
-        (&["jugde"][..], "there is no command 'jugde'"),
+        (&["examine"][..], "there is no command 'examine'"),
+        (&["-v"], "there is no command '-v' and no such option"),
+        (&["net-a.txt"], "there is no command 'net-a.txt'; for the file: 'judge net-a.txt'"),
+        (&["list", "-v", "net-a.txt"], "there is no option '-v' here; a file of that name is './-v'"),
+        (&["pack", "-v", "net-a.txt"], "there is no option '-v' here; a file of that name is './-v'"),
+        (&["judge", "-"], "'-' is no file; the standard input is /dev/stdin"),
+        (&["help", "list", "judge"], "'judge' is one word too many"),
         (&["judge"], "TABLE is missing"),
         (&["judge", "net-a.txt", "x"], "'x' is one word too many"),
         (&["list", "a", "b", "c"], "'c' is one word too many"),
@@ -100,6 +106,57 @@ fn help_and_wrong_use() {
     assert!(ends(&["judge", "nothing.txt"], 2).starts_with("dovetrellis: nothing.txt: "));
     assert!(ends(&["pack", "net-a.txt", "-o", "net-b.txt"], 2)
         .starts_with("dovetrellis: net-b.txt cannot be a folder: "));
+}
+
+#[test]
+fn help_tells_of_one_command() {
+    let list = fine(&["help", "list"]);
+    assert!(
+        list.starts_with("  dovetrellis list [TABLE [RUN]]  "),
+        "{list}"
+    );
+    assert!(
+        list.contains("Without TABLE: examples/net-a.txt\n\nTABLE is a file of records"),
+        "{list}"
+    );
+    assert!(
+        list.contains("\nExit status: 0 fine;") && !list.contains("judge"),
+        "{list}"
+    );
+    for command in ["list", "judge", "unfold", "pack", "show"] {
+        let said = fine(&["help", command]);
+        assert!(
+            said.starts_with(&format!("  dovetrellis {command} ")),
+            "{said}"
+        );
+        assert_eq!(fine(&[command, "--help"]), said);
+        assert_eq!(fine(&[command, "net-a.txt", "-h"]), said);
+    }
+    for command in ["build", "help"] {
+        let said = fine(&["help", command]);
+        assert!(
+            said.starts_with(&format!("  dovetrellis {command} ")),
+            "{said}"
+        );
+    }
+}
+
+#[test]
+fn the_command_that_is_meant_is_named() {
+    for (word, meant) in [
+        ("jugde", "judge"),
+        ("judg", "judge"),
+        ("lsit", "list"),
+        ("List", "list"),
+        ("shwo", "show"),
+        ("unflod", "unfold"),
+        ("bulid", "build"),
+        ("--hlep", "help"),
+    ] {
+        let said = format!("dovetrellis: there is no command '{word}' (is '{meant}' meant?)\n");
+        assert!(ends(&[word, "net-a.txt"], 2).starts_with(&said));
+        assert!(ends(&["help", word], 2).starts_with(&said));
+    }
 }
 
 #[test]
