@@ -2,6 +2,7 @@
 
 use std::path::Path;
 
+use crate::files::meant;
 use crate::stop::{Stop, Stopped};
 
 /// What the command asks for.
@@ -68,7 +69,7 @@ fn help_of(command: &str) -> String {
 fn unknown<T>(word: &str) -> Stopped<T> {
     let plain = word.trim_start_matches('-').to_lowercase();
     let meant = match text::nearest(&plain, COMMANDS.into_iter()) {
-        Some(near) => format!(" (is '{near}' meant?)"),
+        Some(near) => meant(Some(near.to_string())),
         None if word.starts_with('-') => " and no such option".to_string(),
         None if Path::new(word).exists() => format!("; for the file: 'judge {word}'"),
         None => String::new(),

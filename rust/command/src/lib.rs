@@ -3,6 +3,7 @@
 //! the condition that stopped a step it looks up by itself, in the marking that they gave.
 
 pub mod asked;
+pub mod files;
 pub mod judge;
 pub mod list;
 pub mod lister;

@@ -1,6 +1,7 @@
 //! `dovetrellis list`: the listing of a run, as the proved program writes it.
 
 use std::io::Write;
+use std::path::Path;
 
 use wire::Refusal;
 
@@ -69,13 +70,26 @@ fn refused(table: &Source, run: &RunSource, refusal: Refusal) -> Stopped<()> {
     Err(Stop::Refused(table.run_told(run, refusal, by)))
 }
 
+/// The table is a file, or what is given for the run is none either; else the two words are likely exchanged.
+fn exchanged(table: &str, run: Option<&str>) -> Stopped<()> {
+    let is_file = |path: &str| Path::new(path).exists();
+    match run {
+        Some(run) if !is_file(table) && is_file(run) => Err(Stop::Use(format!(
+            "'{table}' is no file; the table comes first, then the run"
+        ))),
+        _ => Ok(()),
+    }
+}
+
 /// Lists a run of a table; without a table, the run of the example.
 pub fn list(table: Option<&str>, run: Option<&str>, out: &mut impl Write) -> Stopped<()> {
     let example = tools::examples()
         .join("net-a.txt")
         .to_string_lossy()
         .into_owned();
-    let table = source::read(table.unwrap_or(&example))?;
+    let table = table.unwrap_or(&example);
+    exchanged(table, run)?;
+    let table = source::read(table)?;
     let run = table.asked_run(run)?;
     let listing = listed(&table, &run.bytes)?;
     match refusal_of(&listing) {

@@ -1,9 +1,11 @@
 //! Tables and runs as they are given: a file of records, or text.
 
 use std::fs;
+use std::path::Path;
 
 use text::{Place, Table};
 
+use crate::files::{bytes_of, looks_like, meant, near, no_such_record};
 use crate::stop::{Stop, Stopped};
 
 /// A table as it is given.
@@ -33,11 +35,6 @@ pub struct RunSource {
 /// The most bytes of a record file that the library is asked with; no table that it accepts has a tenth of them.
 const MOST_BYTES: usize = 4_000_000;
 
-/// The bytes of a file.
-fn bytes_of(path: &str) -> Stopped<Vec<u8>> {
-    fs::read(path).map_err(|error| Stop::Failed(format!("{path}: {error}")))
-}
-
 /// A record file that the library can be asked with.
 fn asked_with(path: &str, bytes: &[u8]) -> Stopped<()> {
     if bytes.len() <= MOST_BYTES {
@@ -65,7 +62,10 @@ fn spelled(path: &str, given: &[u8]) -> Stopped<Source> {
 pub fn read_text(path: &str) -> Stopped<Source> {
     let given = bytes_of(path)?;
     if let Some(at) = text::control_at(&given) {
-        let what = format!("byte {at} is a control character, so this is no text");
+        let what = match looks_like(&given) {
+            Some(what) => format!("this is no text table; it looks like {what}"),
+            None => format!("byte {at} is a control character, so this is no text"),
+        };
         return Err(Stop::Text(format!("{path}: {what}")));
     }
     spelled(path, &given)
@@ -114,26 +114,53 @@ impl Source {
         }
     }
 
+    /// What the table's runs are called.
+    fn run_names(&self) -> Vec<String> {
+        let runs = 0..self.table.runs.len();
+        runs.map(|index| self.table.run_name(index)).collect()
+    }
+
+    /// That there is no run of a name, which runs there are, and which is likely meant.
+    fn no_run(&self, name: &str) -> Stop {
+        let names = self.run_names();
+        let known = match (self.is_text, names.is_empty()) {
+            (false, _) => format!("{} is no text, so its runs are files", self.path),
+            (true, true) => format!("{} has no runs", self.path),
+            (true, false) => format!("the runs of {} are: {}", self.path, names.join(", ")),
+        };
+        let run = text::nearest(name, names.iter().map(String::as_str)).map(String::from);
+        let meant = meant(run.or_else(|| near(Path::new(name))));
+        Stop::Use(format!(
+            "'{name}' is neither a run nor a file{meant}; {known}"
+        ))
+    }
+
+    /// The run at hand where none is asked for: the text's first.
+    fn first_run(&self) -> Stopped<RunSource> {
+        if !self.table.runs.is_empty() {
+            return Ok(self.run(0));
+        }
+        let what = match self.is_text {
+            true => "has no run, so RUN must be given".to_string(),
+            false => {
+                let why = no_such_record(&self.bytes, 1);
+                format!("is no text, so no run stands in it and RUN must be given{why}")
+            }
+        };
+        Err(Stop::Use(format!("{} {what}", self.path)))
+    }
+
     /// The run that is asked for: by its name in the text, or else a file; without either, the text's first run.
     pub fn asked_run(&self, asked: Option<&str>) -> Stopped<RunSource> {
-        let names = || (0..self.table.runs.len()).map(|index| self.table.run_name(index));
-        match asked {
-            None if self.table.runs.is_empty() => Err(Stop::Use(format!(
-                "{} has no run, so RUN must be given",
-                self.path
-            ))),
-            None => Ok(self.run(0)),
-            Some(name) => match self.table.run_called(name) {
-                Some(index) => Ok(self.run(index)),
-                None if self.is_text && fs::metadata(name).is_err() => {
-                    let names: Vec<String> = names().collect();
-                    let known = format!("the runs of {} are: {}", self.path, names.join(", "));
-                    Err(Stop::Use(format!(
-                        "'{name}' is neither a run nor a file; {known}"
-                    )))
-                }
-                None => read_run(name),
-            },
+        let Some(name) = asked else {
+            return self.first_run();
+        };
+        if let Some(index) = self.table.run_called(name) {
+            return Ok(self.run(index));
         }
+        if fs::metadata(name).is_err() {
+            return Err(self.no_run(name));
+        }
+        read_run(name)
     }
 }

@@ -3,6 +3,7 @@
 use text::Part;
 use wire::{Failure, Refusal};
 
+use crate::files::no_such_record;
 use crate::source::{RunSource, Source};
 use crate::stop::{Stop, Told};
 
@@ -128,16 +129,14 @@ impl Source {
         format!("byte {offset} of {path}, {record}{}", self.why_records())
     }
 
-    /// Why a file that does not begin as a table does, with a record of kind 1, was not taken as text.
+    /// What a file that does not begin as a table does, with a record of kind 1, looks like, or why it was not taken as text.
     fn why_records(&self) -> String {
-        if self.bytes.is_empty() {
-            return "; the file is empty".to_string();
-        }
+        let why = no_such_record(&self.bytes, 1);
         match text::control_at(&self.bytes) {
-            Some(at) if self.bytes.get(2..4) != Some(&[1, 0]) => {
+            Some(at) if why.is_empty() && self.bytes.get(2..4) != Some(&[1, 0]) => {
                 format!("; it is not taken as text, since byte {at} is a control character")
             }
-            _ => String::new(),
+            _ => why,
         }
     }
 
@@ -161,7 +160,10 @@ impl Source {
         let step = refusal.place as usize;
         match (refusal.number, run.places.first()) {
             (10..=12 | 15, _) => {}
-            (1..=9, None) => return format!("byte {} of {called}", refusal.place),
+            (1..=9, None) => {
+                let why = no_such_record(&run.bytes, 4);
+                return format!("byte {} of {called}{why}", refusal.place);
+            }
             (1..=9, Some(first)) => {
                 return format!("{called}, whose steps begin at {first} of {}", self.path)
             }

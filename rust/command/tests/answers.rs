@@ -98,12 +98,11 @@ fn help_and_wrong_use() {
         (&["pack", "net-a.txt", "-o"], "a folder is missing after -o"),
         (&["pack", "net-a.txt", "-o", "a", "-o", "b"], "-o is there twice"),
         (&["list", "limits-over.txt"], "limits-over.txt has no run, so RUN must be given"),
-        (&["list", "net-a.txt", "rond"], "'rond' is neither a run nor a file; the runs of net-a.txt are: round, empty, early, unknown"),
+        (&["list", "net-a.txt", "rond"], "'rond' is neither a run nor a file (is 'round' meant?); the runs of net-a.txt are: round, empty, early, unknown"),
         (&["show", "net-a.txt", "net-b.txt"], "net-b.txt is text; a run is a record file, or the name of a run in a text table"),
     ] {
         assert_eq!(ends(words, 2), format!("dovetrellis: {said}\n'dovetrellis help' tells the commands\n"));
     }
-    assert!(ends(&["judge", "nothing.txt"], 2).starts_with("dovetrellis: nothing.txt: "));
     assert!(ends(&["pack", "net-a.txt", "-o", "net-b.txt"], 2)
         .starts_with("dovetrellis: net-b.txt cannot be a folder: "));
 }
@@ -459,7 +458,7 @@ fn text_with_a_control_character_is_told() {
         ),
         (
             b"\xff\xfec\0o\0n\0",
-            "it is not taken as text, since byte 3 is a control character",
+            "it looks like text in UTF-16, which must be saved as UTF-8",
         ),
     ] {
         folder.write("u.txt", bytes).unwrap();
@@ -475,6 +474,116 @@ fn text_with_a_control_character_is_told() {
         (packed.status, packed.out.as_str(), packed.err.as_str()),
         (1, "", said)
     );
+}
+
+/// A folder with net A as text and as records, its run, an empty file, text in UTF-16, a link to nothing and a folder.
+fn files_of_many_kinds() -> Folder {
+    let folder = Folder::new().unwrap();
+    let net = fs::read(Path::new(TOP).join("examples/net-a.txt")).unwrap();
+    let table = text::read(&net).unwrap();
+    folder.write("net.txt", &net).unwrap();
+    folder.write("net.bin", &table.bytes()).unwrap();
+    folder.write("round.bin", &table.runs[0].bytes()).unwrap();
+    folder.write("empty.bin", b"").unwrap();
+    folder.write("wide.txt", b"\xff\xfec\0o\0n\0").unwrap();
+    std::os::unix::fs::symlink("nowhere", folder.path().join("link")).unwrap();
+    fs::create_dir(folder.path().join("inner")).unwrap();
+    folder
+}
+
+#[test]
+fn why_a_file_cannot_be_read_is_told() {
+    let folder = files_of_many_kinds();
+    for (path, said) in [
+        ("nothing-like-it.txt", "there is no such file"),
+        ("nte.txt", "there is no such file (is 'net.txt' meant?)"),
+        ("inner/x/net.txt", "there is no folder 'inner/x'"),
+        (
+            "innre/net.txt",
+            "there is no folder 'innre' (is 'inner' meant?)",
+        ),
+        ("inner", "this is a folder, and a file is needed"),
+        ("net.txt/x", "a file stands where its folder should"),
+        ("link", "this is a link to a file that is not there"),
+    ] {
+        for command in ["judge", "list", "pack", "show", "unfold"] {
+            let ran = ran_in(folder.path(), &[command, path]);
+            let said = format!("dovetrellis: {path}: {said}\n");
+            assert_eq!((ran.status, ran.out.as_str(), ran.err), (2, "", said));
+        }
+    }
+    let empty = ran_in(folder.path(), &["judge", ""]);
+    assert_eq!(empty.err, "dovetrellis: the name of a file is empty\n");
+}
+
+#[test]
+fn files_in_each_others_place_are_told() {
+    let folder = files_of_many_kinds();
+    for (words, said) in [
+        (
+            &["list", "net.bin"][..],
+            "net.bin is no text, so no run stands in it and RUN must be given\n",
+        ),
+        (
+            &["list", "round.bin"],
+            "RUN must be given; it looks like the record of a run\n",
+        ),
+        (
+            &["list", "empty.bin"],
+            "RUN must be given; the file is empty\n",
+        ),
+        (
+            &["list", "round", "net.txt"],
+            "'round' is no file; the table comes first, then the run\n",
+        ),
+        (
+            &["list", "net.bin", "nite"],
+            "'nite' is neither a run nor a file; net.bin is no text, so its runs are files\n",
+        ),
+        (
+            &["list", "net.bin", "ruond.bin"],
+            "nor a file (is 'round.bin' meant?); net.bin is no text",
+        ),
+        (
+            &["pack", "net.bin"],
+            "net.bin: this is no text table; it looks like a table of records\n",
+        ),
+        (
+            &["pack", "round.bin"],
+            "round.bin: this is no text table; it looks like the record of a run\n",
+        ),
+        (
+            &["pack", "wide.txt"],
+            "it looks like text in UTF-16, which must be saved as UTF-8\n",
+        ),
+        (
+            &["judge", "round.bin"],
+            "byte 0 of round.bin, the first record; it looks like the record of a run\n",
+        ),
+        (
+            &["list", "round.bin", "net.bin"],
+            "byte 0 of round.bin, the first record; it looks like the record of a run\n",
+        ),
+        (
+            &["list", "net.txt", "net.bin"],
+            "byte 0 of net.bin; it looks like a table of records\n",
+        ),
+        (
+            &["show", "net.bin", "net.bin"],
+            "byte 0 of net.bin; it looks like a table of records\n",
+        ),
+        (
+            &["list", "net.bin", "empty.bin"],
+            "byte 0 of empty.bin; the file is empty\n",
+        ),
+    ] {
+        let ran = ran_in(folder.path(), words);
+        assert!(
+            ran.status > 0 && ran.err.contains(said),
+            "{words:?}: {}",
+            ran.err
+        );
+    }
 }
 
 #[test]
