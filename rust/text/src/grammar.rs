@@ -1,5 +1,6 @@
 //! The statements of a text, before names are looked up.
 
+use crate::near::nearest;
 use crate::tokens::{tokens, Piece, Token};
 use crate::trouble::{trouble, Place, Trouble};
 
@@ -255,10 +256,21 @@ impl Parser {
     /// Takes the colon that a reserved word needs, and its list without braces.
     fn list_after(&mut self, word: &str, form: Form) -> Result<List, Trouble> {
         self.colon_after(word)?;
-        if *self.piece() == Piece::Open {
+        if self.at_event_lists() {
             return self.unexpected(&since(form.told(), word));
         }
+        if *self.piece() == Piece::Open {
+            return self.unexpected(&format!("{}, as this list has no braces", form.told()));
+        }
         self.open_list(form)
+    }
+
+    /// The two lists of an event come next, as far as the arrow shows it.
+    fn at_event_lists(&self) -> bool {
+        let mut rest = self.tokens[self.at..].iter().map(|token| &token.piece);
+        rest.next() == Some(&Piece::Open)
+            && rest.any(|piece| *piece == Piece::Close)
+            && rest.find(|piece| **piece != Piece::LineEnd) == Some(&Piece::Arrow)
     }
 
     /// Takes the end of a statement's line.
@@ -300,6 +312,17 @@ impl Parser {
         Ok(Statement::Run(place, name, list))
     }
 
+    /// The trouble that an event lacks a piece; if its name is near a reserved word, that may be meant.
+    fn event_lacks<T>(&self, piece: &Piece, begun: &Piece) -> Result<T, Trouble> {
+        let word = match begun {
+            Piece::Name(name) => nearest(&name.to_lowercase(), RESERVED.into_iter()),
+            _ => None,
+        };
+        let meant = word.map_or_else(String::new, |word| format!(" (is `{word}` meant?)"));
+        let (piece, begun) = (piece.told(), begun.told());
+        self.unexpected(&format!("{piece}, since {begun} begins an event{meant}"))
+    }
+
     /// Takes an event: its name or number, and its two lists.
     fn event(&mut self) -> Result<Statement, Trouble> {
         let place = self.place();
@@ -310,15 +333,19 @@ impl Parser {
             persistent: false,
             place,
         };
-        let begun = self.tokens[self.at - 1].piece.told();
-        self.need(&Piece::Colon)?;
+        let begun = self.tokens[self.at - 1].piece.clone();
+        if !self.took(&Piece::Colon) {
+            return self.event_lacks(&Piece::Colon, &begun);
+        }
         self.skip_lines();
         if *self.piece() != Piece::Open {
-            return self.unexpected(&format!("`{{`, since {begun} begins an event"));
+            return self.event_lacks(&Piece::Open, &begun);
         }
         let before = self.set()?;
         self.skip_lines();
-        self.need(&Piece::Arrow)?;
+        if !self.took(&Piece::Arrow) {
+            return self.event_lacks(&Piece::Arrow, &begun);
+        }
         let after = self.set()?;
         self.line_end()?;
         Ok(Statement::Event(label, before, after))

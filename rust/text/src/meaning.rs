@@ -6,7 +6,7 @@ use crate::grammar::{statements, Element, List, Statement, Written};
 use crate::near::nearest;
 use crate::records::{MOST_EVENT_LISTS, MOST_LIST, MOST_NUMBERED};
 use crate::table::{Condition, Event, Run, Table};
-use crate::trouble::{trouble, Place, Trouble};
+use crate::trouble::{quoted, trouble, Place, Trouble};
 
 /// The names of conditions, of events or of runs, each with its number and place.
 struct Names {
@@ -29,7 +29,7 @@ impl Names {
             None => Ok(()),
             Some((_, other)) => {
                 let expected = format!("a name that no other {} has", self.of);
-                let found = format!("`{name}`, which stands at {other} already");
+                let found = format!("{}, which stands at {other} already", quoted(name));
                 trouble(place, expected, found)
             }
         }
@@ -41,10 +41,11 @@ impl Names {
             return Ok(*number);
         }
         let expected = format!("the name or number of {} {}", article(self.of), self.of);
-        let found = match nearest(name, self.known.keys().map(String::as_str)) {
-            Some(near) => format!("`{name}`, which is none (is `{near}` meant?)"),
-            None => format!("`{name}`, which is none"),
+        let meant = match nearest(name, self.known.keys().map(String::as_str)) {
+            Some(near) => format!(" (is `{near}` meant?)"),
+            None => String::new(),
         };
+        let found = format!("{}, which is none{meant}", quoted(name));
         trouble(place, expected, found)
     }
 }
@@ -148,7 +149,7 @@ impl Meaning {
             for number in self.referred(element)? {
                 if !set.insert(number) {
                     let name = self.table.condition_name(number);
-                    let found = format!("`{name}` a second time");
+                    let found = format!("{} a second time", quoted(&name));
                     return trouble(element.place, "each condition once in a list", found);
                 }
             }
@@ -264,7 +265,8 @@ fn decoded(bytes: &[u8]) -> Result<&str, Trouble> {
         column: line.chars().count() + 1,
     };
     let byte = bytes.get(error.valid_up_to()).copied().unwrap_or_default();
-    trouble(place, "text in UTF-8", format!("the byte 0x{byte:02x}"))
+    let found = format!("the byte 0x{byte:02x}, which is none (save the file as UTF-8)");
+    trouble(place, "text in UTF-8", found)
 }
 
 /// The table and the runs that a text states, or what keeps it from being turned into records.

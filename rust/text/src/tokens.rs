@@ -3,7 +3,7 @@
 use std::iter::Peekable;
 use std::str::Chars;
 
-use crate::trouble::{trouble, Place, Trouble};
+use crate::trouble::{quoted, trouble, Place, Trouble};
 
 /// A piece of a text.
 #[derive(Clone, Debug, PartialEq, Eq)]
@@ -25,7 +25,7 @@ impl Piece {
     /// The piece as it is told in a message.
     pub fn told(&self) -> String {
         match self {
-            Piece::Name(name) => format!("`{name}`"),
+            Piece::Name(name) => quoted(name),
             Piece::Number(number) => format!("`{number}`"),
             Piece::Open => "`{`".into(),
             Piece::Close => "`}`".into(),
@@ -104,29 +104,22 @@ impl Walk<'_> {
         let place = self.place;
         let digits = self.take_while(|c| c.is_ascii_digit());
         if self.peek().is_some_and(in_name) {
-            let found = format!("`{digits}{}`", self.name());
-            return trouble(
-                place,
-                "a number, or a name that begins with a letter",
-                found,
-            );
+            let found = quoted(&(digits + &self.name()));
+            let expected = "a number, or a name that begins with a letter";
+            return trouble(place, expected, found);
         }
         match digits.parse() {
             Ok(number) => Ok(Piece::Number(number)),
-            Err(_) => trouble(place, "a number of at most 65535", format!("`{digits}`")),
+            Err(_) => trouble(place, "a number of at most 65535", quoted(&digits)),
         }
     }
 
     /// Takes a mark of more than one character, whose first was seen.
     fn mark(&mut self, mark: &str, piece: Piece) -> Result<Piece, Trouble> {
         let place = self.place;
-        for wanted in mark.chars() {
+        for (at, wanted) in mark.char_indices() {
             if self.peek() != Some(wanted) {
-                let found = match self.peek() {
-                    Some(c) if !c.is_control() => format!("`{c}` within it"),
-                    _ => "only its beginning".to_string(),
-                };
-                return trouble(place, format!("`{mark}`"), found);
+                return broken(place, mark, &mark[..at], self.peek());
             }
             self.take();
         }
@@ -156,9 +149,35 @@ impl Walk<'_> {
             _ => trouble(
                 self.place,
                 "a name, a number or one of `{ } , : -> .. [p] #`",
-                format!("`{}`", first.escape_debug()),
+                unknown(first),
             ),
         }
+    }
+}
+
+/// The trouble that a mark is only begun, with what comes after its beginning.
+fn broken<T>(place: Place, mark: &str, begun: &str, next: Option<char>) -> Result<T, Trouble> {
+    let found = match next {
+        Some(c) if c.is_ascii_graphic() => format!("`{begun}{c}`"),
+        _ => format!("`{begun}` alone"),
+    };
+    let expected = match found.as_str() {
+        "`--`" => format!("`{mark}`, or a single dash within a name"),
+        _ => format!("`{mark}`"),
+    };
+    trouble(place, expected, found)
+}
+
+/// A character that is no part of the notation, as it is told; one that may look like another by its number too.
+fn unknown(c: char) -> String {
+    let number = u32::from(c);
+    match c {
+        '\u{300}'..='\u{36f}' => {
+            format!("the accent U+{number:04X}, which must be one character with its letter")
+        }
+        _ if c.is_whitespace() => format!("U+{number:04X}, which is a blank but no space"),
+        _ if c.is_ascii_graphic() => format!("`{c}`"),
+        _ => format!("`{}`, which is U+{number:04X}", c.escape_debug()),
     }
 }
 

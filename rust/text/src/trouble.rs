@@ -36,6 +36,17 @@ impl fmt::Display for Trouble {
 
 impl std::error::Error for Trouble {}
 
+/// The most characters of a name that a message repeats.
+const MOST_TOLD: usize = 60;
+
+/// A name as it is told in a message, a long one by its beginning.
+pub fn quoted(name: &str) -> String {
+    match name.char_indices().nth(MOST_TOLD) {
+        Some((end, _)) => format!("`{}...`", &name[..end]),
+        None => format!("`{name}`"),
+    }
+}
+
 /// The trouble at a place, as an answer of any type.
 pub fn trouble<T>(
     place: Place,

@@ -129,7 +129,7 @@ fn a_part_that_is_missing_is_told() {
     );
     assert_eq!(
         told(b"conditions: a\n# caf\xe9\nstart: {}"),
-        "line 2, column 6: expected text in UTF-8, found the byte 0xe9"
+        "line 2, column 6: expected text in UTF-8, found the byte 0xe9, which is none (save the file as UTF-8)"
     );
 }
 
@@ -155,7 +155,13 @@ fn troubles_of_conditions() {
         ("conditions a", "column 12: expected `:`, found `a`"),
         ("conditions: a b", "column 15: expected `[p]`, `,` or the end of the line, found `b`"),
         ("conditions: a [p] b", "column 19: expected `,` or the end of the line, found `b`"),
-        ("conditions: a [q]", "column 15: expected `[p]`, found `q` within it"),
+        ("conditions: a [q]", "column 15: expected `[p]`, found `[q`"),
+        ("conditions: a.b", "column 14: expected `..`, found `.b`"),
+        ("conditions: a--b", "column 14: expected `->`, or a single dash within a name, found `--`"),
+        ("conditions: {a}", "column 13: expected the name or number of a condition, as this list has no braces, found `{`"),
+        ("conditions: a,\u{a0}b", "column 15: expected a name, a number or one of `{ } , : -> .. [p] #`, found U+00A0, which is a blank but no space"),
+        ("conditions: a\u{308}", "column 14: expected a name, a number or one of `{ } , : -> .. [p] #`, found the accent U+0308, which must be one character with its letter"),
+        ("conditions: a – b", "column 15: expected a name, a number or one of `{ } , : -> .. [p] #`, found `–`, which is U+2013"),
         ("conditions: a,, b", "column 15: expected the name or number of a condition, found `,`"),
         ("conditions: a, 2", "column 16: expected 1, the number of the condition that stands here, or a name, found `2`"),
         ("conditions: 0..3, 3", "column 19: expected 4, the number of the condition that stands here, or a name, found `3`"),
@@ -174,11 +180,13 @@ fn troubles_of_conditions() {
 fn troubles_of_other_statements() {
     let before = "conditions: a, b [p]\nx: {a} -> {b}\nstart: {a}\n";
     for (statement, expected) in [
-        ("y {a}", "line 4, column 3: expected `:`, found `{`"),
+        ("y {a}", "line 4, column 3: expected `:`, since `y` begins an event, found `{`"),
+        ("runs r: x", "line 4, column 6: expected `:`, since `runs` begins an event (is `run` meant?), found `r`"),
         ("y: a", "line 4, column 4: expected `{`, since `y` begins an event, found `a`"),
-        ("condition:\n  c", "line 5, column 3: expected `{`, since `condition` begins an event, found `c`"),
-        ("y: {a} {b}", "line 4, column 8: expected `->`, found `{`"),
-        ("y: {a} - {b}", "line 4, column 8: expected `->`, found ` ` within it"),
+        ("condition:\n  c", "line 5, column 3: expected `{`, since `condition` begins an event (is `conditions` meant?), found `c`"),
+        ("Start: {a}", "line 4, column 11: expected `->`, since `Start` begins an event (is `start` meant?), found the end of the text"),
+        ("y: {a} {b}", "line 4, column 8: expected `->`, since `y` begins an event, found `{`"),
+        ("y: {a} - {b}", "line 4, column 8: expected `->`, found `-` alone"),
         ("y: {a b} -> {}", "line 4, column 7: expected `,` or `}`, found `b`"),
         ("y: {a [p]} -> {}", "line 4, column 7: expected `,` or `}`, found `[p]`"),
         ("y: {a} -> {b", "line 4, column 13: expected `,` or `}`, found the end of the text"),
@@ -197,6 +205,7 @@ fn troubles_of_other_statements() {
         ("start: {a}", "line 4, column 1: expected one `start:`, found a second one"),
         ("run r: x, z", "line 4, column 11: expected the name or number of an event, found `z`, which is none"),
         ("run r: x, 0..1", "line 4, column 12: expected `,` or the end of the line, found `..`"),
+        ("run r: {x}", "line 4, column 8: expected the name or number of an event, as this list has no braces, found `{`"),
         ("run {x}", "line 4, column 5: expected a name for the run, or `:`, found `{`"),
         ("run r: x\nrun  r: x", "line 5, column 6: expected a name that no other run has, found `r`, which stands at line 4, column 5 already"),
         ("run r: x y: {a} -> {}", "line 4, column 10: expected `,` or the end of the line, found `y`"),
@@ -258,6 +267,25 @@ fn a_word_of_the_notation_is_no_name() {
         let other = format!("conditions: {word}-1\n{word}-1: {{}} -> {{{word}-1}}\nstart: {{}}");
         assert_eq!(table(&other).condition_name(0), format!("{word}-1"));
     }
+}
+
+#[test]
+fn a_long_name_is_told_by_its_beginning() {
+    let (long, told_so) = ("ä".repeat(61), format!("`{}...`", "ä".repeat(60)));
+    for text in [
+        format!("conditions: {long}, {long}\nstart: {{}}"),
+        format!("conditions: a\nstart: {{{long}}}"),
+        format!("conditions: {long}\nstart: {{0, {long}}}"),
+        format!("conditions: a {long}\nstart: {{}}"),
+        format!("conditions: 7{long}\nstart: {{}}"),
+    ] {
+        let told = told(text.as_bytes());
+        assert!(told.contains(&told_so[3..]) && told.len() < 300, "{told}");
+    }
+    let name = "b".repeat(60);
+    assert!(
+        told(format!("conditions: a\nstart: {{{name}}}").as_bytes()).contains(&format!("`{name}`"))
+    );
 }
 
 #[test]
