@@ -181,6 +181,11 @@ fn unknown(c: char) -> String {
     }
 }
 
+/// A character that some editors show as the end of a line and that is none here.
+fn odd_line_end(c: char) -> bool {
+    matches!(c, '\u{85}' | '\u{2028}' | '\u{2029}')
+}
+
 /// A character may stand within a name.
 fn in_name(c: char) -> bool {
     c.is_alphanumeric() || c == '_'
@@ -204,11 +209,15 @@ pub fn tokens(text: &str) -> Result<Vec<Token>, Trouble> {
                 let found = "a carriage return alone";
                 return trouble(place, "a line feed at the end of the line", found);
             }
+            _ if odd_line_end(first) => {
+                let found = format!("U+{:04X} alone", u32::from(first));
+                return trouble(place, "a line feed at the end of the line", found);
+            }
             ' ' | '\t' | '\r' => {
                 walk.take();
             }
             '#' => {
-                walk.take_while(|c| !matches!(c, '\n' | '\r'));
+                walk.take_while(|c| !matches!(c, '\n' | '\r') && !odd_line_end(c));
             }
             _ => {
                 let piece = walk.piece(first)?;

@@ -147,6 +147,15 @@ fn a_carriage_return_alone_hides_no_line() {
         assert_eq!(told(text.as_bytes()), format!("{place}: {said}"));
     }
     assert_eq!(table("conditions: a # one\r\nstart: {a}\r\n").start, [0]);
+    for odd in ['\u{85}', '\u{2028}', '\u{2029}'] {
+        let text = format!("conditions: a # one{odd}x: {{a}} -> {{}}\nstart: {{}}");
+        let said = format!("found U+{:04X} alone", u32::from(odd));
+        let told = told(text.as_bytes());
+        assert!(
+            told.starts_with("line 1, column 20: ") && told.ends_with(&said),
+            "{told}"
+        );
+    }
 }
 
 #[test]
