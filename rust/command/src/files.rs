@@ -1,7 +1,7 @@
 //! Files as they are read, and in words why one cannot be.
 
 use std::fs;
-use std::io;
+use std::io::{self, Read};
 use std::path::Path;
 
 use crate::stop::{Stop, Stopped};
@@ -31,11 +31,24 @@ fn names_in(folder: &Path) -> Vec<String> {
     names
 }
 
+/// What the system says of a failure, without its number.
+pub fn plain(error: &io::Error) -> String {
+    let said = error.to_string();
+    said.split(" (os error")
+        .next()
+        .unwrap_or_default()
+        .to_string()
+}
+
 /// What stands beside a missing file or folder and has nearly its name.
 pub fn near(missing: &Path) -> Option<String> {
     let name = missing.file_name()?.to_string_lossy();
     let names = names_in(folder_of(missing));
-    let near = text::nearest(&name, names.iter().map(String::as_str))?;
+    let others = names
+        .iter()
+        .map(String::as_str)
+        .filter(|other| *other != name);
+    let near = text::nearest(&name, others)?;
     Some(missing.with_file_name(near).display().to_string())
 }
 
@@ -67,14 +80,30 @@ fn unreadable(path: &str, error: io::Error) -> Stop {
         io::ErrorKind::IsADirectory => "this is a folder, and a file is needed".to_string(),
         io::ErrorKind::NotADirectory => "a file stands where its folder should".to_string(),
         io::ErrorKind::PermissionDenied => "you may not read this file".to_string(),
-        _ => error.to_string(),
+        _ => plain(&error),
     };
     Stop::Failed(format!("{path}: {why}"))
 }
 
-/// The bytes of a file.
+/// The most bytes that are read of a file; no text that can be turned into an accepted table needs a tenth of them.
+const MOST_READ: u64 = 64_000_000;
+
+/// The first bytes of a file, one more than are taken at most.
+fn read_some(path: &str) -> io::Result<Vec<u8>> {
+    let mut bytes = Vec::new();
+    let file = fs::File::open(path)?;
+    file.take(MOST_READ + 1).read_to_end(&mut bytes)?;
+    Ok(bytes)
+}
+
+/// The bytes of a file, which may be a pipe; one without end, or that is surely no table, is not read to its end.
 pub fn bytes_of(path: &str) -> Stopped<Vec<u8>> {
-    fs::read(path).map_err(|error| unreadable(path, error))
+    let bytes = read_some(path).map_err(|error| unreadable(path, error))?;
+    if bytes.len() as u64 > MOST_READ {
+        let why = format!("over {MOST_READ} bytes, and files are taken up to that");
+        return Err(Stop::Failed(format!("{path}: {why}")));
+    }
+    Ok(bytes)
 }
 
 /// What a file that is no text looks like, by its first bytes.

@@ -1,11 +1,12 @@
 //! `dovetrellis pack` and `dovetrellis show`: from text to records, and back.
 
 use std::fs;
-use std::io::Write;
+use std::io::{self, Write};
 use std::path::Path;
 
 use wire::{whole, Failure};
 
+use crate::files::plain;
 use crate::source::{self, read_run, read_text, RunSource};
 use crate::stop::{Stop, Stopped};
 use crate::tools;
@@ -13,13 +14,21 @@ use crate::tools;
 /// The most steps of a run.
 const MOST_STEPS: usize = 4096;
 
+/// Why a folder cannot be made.
+fn no_folder(folder: &str, error: io::Error) -> Stop {
+    let why = match error.kind() {
+        io::ErrorKind::AlreadyExists => "a file has that name".to_string(),
+        _ => plain(&error),
+    };
+    Stop::Failed(format!("'{folder}' cannot be a folder: {why}"))
+}
+
 /// Writes a file and says so.
 fn write(folder: &str, name: &str, bytes: &[u8], out: &mut impl Write) -> Stopped<()> {
     let path = Path::new(folder).join(name);
-    let no_folder = |error| Stop::Failed(format!("{folder} cannot be a folder: {error}"));
-    fs::create_dir_all(folder).map_err(no_folder)?;
-    let failed = |error| Stop::Failed(format!("{}: {error}", path.display()));
-    fs::write(&path, bytes).map_err(failed)?;
+    fs::create_dir_all(folder).map_err(|error| no_folder(folder, error))?;
+    let failed = |error| format!("{} cannot be written: {}", path.display(), plain(&error));
+    fs::write(&path, bytes).map_err(|error| Stop::Failed(failed(error)))?;
     Ok(writeln!(out, "{} ({} bytes)", path.display(), bytes.len())?)
 }
 

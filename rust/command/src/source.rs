@@ -1,6 +1,5 @@
 //! Tables and runs as they are given: a file of records, or text.
 
-use std::fs;
 use std::path::Path;
 
 use text::{Place, Table};
@@ -158,7 +157,7 @@ impl Source {
         if let Some(index) = self.table.run_called(name) {
             return Ok(self.run(index));
         }
-        if fs::metadata(name).is_err() {
+        if matches!(Path::new(name).try_exists(), Ok(false)) {
             return Err(self.no_run(name));
         }
         read_run(name)

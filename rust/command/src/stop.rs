@@ -5,6 +5,7 @@ use std::io::{self, Write};
 use wire::Refusal;
 
 use crate::asked::HELP;
+use crate::files::plain;
 
 /// A refusal in words: what its number means, and what its place is.
 #[derive(Clone, Debug, PartialEq, Eq)]
@@ -78,7 +79,7 @@ impl From<io::Error> for Stop {
     fn from(error: io::Error) -> Stop {
         match error.kind() {
             io::ErrorKind::BrokenPipe => Stop::Unread,
-            _ => Stop::Failed(error.to_string()),
+            _ => Stop::Failed(format!("the answer cannot be written: {}", plain(&error))),
         }
     }
 }

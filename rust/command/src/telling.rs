@@ -45,15 +45,6 @@ fn due_in_table(number: u64, offset: usize, kind: Option<u8>) -> Option<&'static
     }
 }
 
-/// The same of the record of a run.
-fn due_in_run(number: u64) -> Option<&'static str> {
-    match number {
-        2 => Some("a run is one record of kind 4"),
-        3 => Some("a run has 2 bytes for each step, and at most 4096 steps"),
-        _ => None,
-    }
-}
-
 /// What a refusal's number means, and more about it, if more is known.
 fn meaning_with(number: u64, more: Option<&str>) -> String {
     match more {
@@ -181,6 +172,18 @@ impl Source {
         }
     }
 
+    /// What is due instead where the record of a run is wrong, or names no event of this table.
+    fn due_in_run(&self, number: u64) -> Option<String> {
+        let events = self.table.events.len();
+        match (number, events) {
+            (2, _) => Some("a run is one record of kind 4".to_string()),
+            (3, _) => Some("a run has 2 bytes for each step, and at most 4096 steps".to_string()),
+            (10, 0) => Some("the table has none".to_string()),
+            (10, _) => Some(format!("the table has events 0 to {}", events - 1)),
+            _ => None,
+        }
+    }
+
     /// The condition that stops an event at a marking, by the number of its refusal, if the marking tells it.
     pub fn stopped_by(&self, event: u16, marking: &[u8], number: u64) -> Option<String> {
         let event = self.table.events.get(usize::from(event))?;
@@ -215,10 +218,10 @@ impl Source {
 
     /// A refusal of a run of this table, told with the condition that stopped it, if that is known.
     pub fn run_told(&self, run: &RunSource, refusal: Refusal, by: Option<String>) -> Told {
-        let more = by.as_deref().or(due_in_run(refusal.number));
+        let more = by.or_else(|| self.due_in_run(refusal.number));
         Told {
             refusal,
-            what: meaning_with(refusal.number, more),
+            what: meaning_with(refusal.number, more.as_deref()),
             place: self.step_told(run, refusal),
         }
     }

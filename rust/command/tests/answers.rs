@@ -104,7 +104,7 @@ fn help_and_wrong_use() {
         assert_eq!(ends(words, 2), format!("dovetrellis: {said}\n'dovetrellis help' tells the commands\n"));
     }
     assert!(ends(&["pack", "net-a.txt", "-o", "net-b.txt"], 2)
-        .starts_with("dovetrellis: net-b.txt cannot be a folder: "));
+        .starts_with("dovetrellis: 'net-b.txt' cannot be a folder: a file has that name\n"));
 }
 
 #[test]
@@ -514,6 +514,51 @@ fn why_a_file_cannot_be_read_is_told() {
     }
     let empty = ran_in(folder.path(), &["judge", ""]);
     assert_eq!(empty.err, "dovetrellis: the name of a file is empty\n");
+    let link = ran_in(folder.path(), &["list", "net.txt", "link"]);
+    assert!(
+        link.err
+            .contains("'link' is neither a run nor a file; the runs"),
+        "{}",
+        link.err
+    );
+    let endless = ran_in(folder.path(), &["judge", "/dev/zero"]);
+    let said = "dovetrellis: /dev/zero: over 64000000 bytes, and files are taken up to that\n";
+    assert_eq!((endless.status, endless.err.as_str()), (2, said));
+}
+
+#[test]
+fn what_cannot_be_written_is_told() {
+    let folder = files_of_many_kinds();
+    fs::create_dir(folder.path().join("net.net.bin")).unwrap();
+    let packed = ran_in(folder.path(), &["pack", "net.txt"]);
+    let said = "dovetrellis: ./net.net.bin cannot be written: Is a directory\n";
+    assert_eq!((packed.status, packed.err.as_str()), (2, said));
+    let full = fs::File::options().write(true).open("/dev/full").unwrap();
+    let mut command = Command::new(env!("CARGO_BIN_EXE_dovetrellis"));
+    let output = command.arg("help").stdout(full).output().unwrap();
+    let said = "dovetrellis: the answer cannot be written: No space left on device\n";
+    assert_eq!(String::from_utf8_lossy(&output.stderr), said);
+    assert_eq!(output.status.code(), Some(2));
+}
+
+#[test]
+fn a_step_that_is_no_event_is_told_with_the_events() {
+    let folder = Folder::new().unwrap();
+    for (events, said) in [
+        ("", "there is no such event: the table has none\n"),
+        (
+            "x: {a} -> {}\ny: {a} -> {}\n",
+            "there is no such event: the table has events 0 to 1\n",
+        ),
+    ] {
+        let text = format!("conditions: a\n{events}start: {{}}\nrun r: 2\n");
+        folder.write("t.txt", text.as_bytes()).unwrap();
+        let (out, err) = refused(folder.path(), &["list", "t.txt"]);
+        assert_eq!(out, "refused 10 at 0\n");
+        assert!(err.contains(said), "{err}");
+        let judged = ran_in(folder.path(), &["judge", "t.txt"]).out;
+        assert!(judged.contains(said), "{judged}");
+    }
 }
 
 #[test]
