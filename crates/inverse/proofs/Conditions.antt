@@ -28,7 +28,7 @@ use Rattle.layout.specs.Unfolds.{unfoldingOf}
 use Rattle.unfolding.specs.Markers.{shown, meant}
 use Rattle.unfolding.proofs.Numbered.{index-found}
 use Rattle.conditions.specs.declared.ConditionOrigin.the-variants as show
-use Rattle.conditions.specs.Answers.{numbered, ordinaryNumber, copyNumber}
+use Rattle.condition_numbers.specs.Answers.{numbered, ordinaryNumber, copyNumber}
 use Rattle.conditions.specs.Origins.{conditionAt, conditionJudged, told, toldIf, conditionOriginOf, originValue}
 use Rattle.inverse.proofs.Prefix.{prefix-passed, fine-same}
 

@@ -29,11 +29,11 @@ fn condition_back(table: &[u8], j: u16) -> bool {
     let o = conditions::condition_origin(table, UnfoldedCondition(j));
     match o {
         ConditionOrigin::Ordinary(b) => is_number(
-            conditions::ordinary_number(table, b),
+            condition_numbers::ordinary_number(table, b),
             j as usize,
         ),
         ConditionOrigin::Copy(b, m, u) => {
-            is_number(conditions::copy_number(table, b, m, u), j as usize)
+            is_number(condition_numbers::copy_number(table, b, m, u), j as usize)
         }
         ConditionOrigin::Refused(_) => false,
     }

@@ -22,7 +22,7 @@ use Rattle.events.specs.declared.Colour.{Colour}
 use Rattle.events.specs.Colours.{colourOf}
 use Rattle.events.specs.Answers.{numberOf}
 use Rattle.unfolding.proofs.Numbered.{events-basic}
-use Rattle.conditions.specs.Answers.{numbered}
+use Rattle.condition_numbers.specs.Answers.{numbered}
 use Rattle.outward.specs.Words.{conditionFor}
 
 -- a net that is unfolded is within the limit

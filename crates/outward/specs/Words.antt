@@ -14,7 +14,7 @@ use Rattle.events.specs.declared.Colour.{Colour}
 use Rattle.events.specs.declared.Pick.{Pick}
 use Rattle.events.specs.declared.EventOrigin.{EventOrigin}
 use Rattle.events.specs.Colours.{colourOf}
-use Rattle.conditions.specs.Answers.{ordinaryNumber, copyNumber}
+use Rattle.condition_numbers.specs.Answers.{ordinaryNumber, copyNumber}
 
 -- The number that stands for the start.
 abbrev pub startWord : ℕ

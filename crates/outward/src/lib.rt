@@ -167,9 +167,9 @@ pub fn condition_number(
     ensures { λ r. ⌜ r ≡ conditionFor (now (table .entry)) (b .0) copy marker (user .0) ⌝ }
 {
     if copy {
-        return conditions::copy_number(table, b, marker_of(marker), user);
+        return condition_numbers::copy_number(table, b, marker_of(marker), user);
     }
-    conditions::ordinary_number(table, b)
+    condition_numbers::ordinary_number(table, b)
 }
 
 // An origin as an answer.

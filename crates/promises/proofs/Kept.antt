@@ -21,7 +21,7 @@ use Rattle.exchange.specs.Calls.{exchangeOf, exchangedOf}
 use Rattle.runs.specs.Runs.{runKind, liftedKind, readAnswer, writeAnswer, runInto, recordInto}
 use Rattle.events.specs.Answers as unfolded
 use Rattle.events.specs.Answers.{originJudged}
-use Rattle.conditions.specs.Answers.{numbered}
+use Rattle.condition_numbers.specs.Answers.{numbered}
 use Rattle.conditions.specs.Origins.{conditionJudged, originNumber}
 use Rattle.listed.specs.Calls.{listingOf, listedOf}
 use Rattle.starting.specs.Calls.{unfoldedStartOf, unfoldedStartedOf}
@@ -54,8 +54,8 @@ use Rattle.unfolding.proofs.event_count.Reads as unfolded-event-count
 use Rattle.parts.proofs.persistent.Reads as persistent
 use Rattle.events.proofs.event_origin.Reads as event-origin
 use Rattle.events.proofs.event_number.Reads as event-number
-use Rattle.conditions.proofs.ordinary_number.Reads as ordinary-number
-use Rattle.conditions.proofs.copy_number.Reads as copy-number
+use Rattle.condition_numbers.proofs.ordinary_number.Reads as ordinary-number
+use Rattle.condition_numbers.proofs.copy_number.Reads as copy-number
 use Rattle.conditions.proofs.condition_origin.Reads as condition-origin
 use Rattle.reader.proofs.record_at.Reads as record-at
 use Rattle.reader.proofs.second.Reads as second

@@ -31,7 +31,7 @@ use Rattle.events.specs.Answers as unfolded
 use Rattle.events.specs.Answers.{originJudged, originOf}
 use Rattle.conditions.specs.declared.ConditionOrigin.{ConditionOrigin}
 use Rattle.conditions.specs.declared.ConditionOrigin.the-variants as show
-use Rattle.conditions.specs.Answers.{numbered}
+use Rattle.condition_numbers.specs.Answers.{numbered}
 use Rattle.conditions.specs.Origins.{conditionAt, conditionJudged, toldIf, conditionOriginOf, originNumber}
 use Rattle.listed.specs.Calls.{listingOf, listedOf}
 use Rattle.starting.specs.Calls.{unfoldedStartOf, unfoldedStartedOf}

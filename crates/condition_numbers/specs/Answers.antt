@@ -1,4 +1,4 @@
--- What the calls on unfolded conditions answer, after the prefix that all share.
+-- What the calls for an unfolded condition's number answer, after the prefix that all share.
 use Prim.Native.Nat.{ℕ}
 use mathlib.Core.List.{List}
 use lib.Dec.{ltb}

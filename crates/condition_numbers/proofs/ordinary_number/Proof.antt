@@ -1,4 +1,4 @@
--- `conditions::ordinary_number` meets its contract.
+-- `condition_numbers::ordinary_number` meets its contract.
 use native.Mathlib.Omega.{arith}
 use mathlib.Core.Path.{_∙_, sym, ap}
 use Prim.Native.Nat.{_<_}
@@ -6,11 +6,11 @@ use Rattle.refusal.specs.declared.Judged.the-variants.{Fine}
 use Rattle.model.specs.Unfolding.{ordinary}
 use Rattle.table.specs.Decoded.{netOf}
 use Rattle.layout.proofs.Limits.{unfolds-passed, unfolds-on, unfolds-judged, conditions-are-all}
-use Rattle.conditions.specs.Answers.{numbered}
-use Rattle.conditions.proofs.Numbered.{ordinary-there, ordinary-past, ordinary-not}
+use Rattle.condition_numbers.specs.Answers.{numbered}
+use Rattle.condition_numbers.proofs.Numbered.{ordinary-there, ordinary-past, ordinary-not}
 use borrow.Author.Needs.{needs}
-use Rattle.conditions.proofs.ordinary_number.Statement.{statement}
-use Rattle.conditions.proofs.ordinary_number.Tie as tie
+use Rattle.condition_numbers.proofs.ordinary_number.Statement.{statement}
+use Rattle.condition_numbers.proofs.ordinary_number.Tie as tie
 
 returns : tie.Need-returns
 returns c =

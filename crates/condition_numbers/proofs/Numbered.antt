@@ -27,7 +27,7 @@ use Rattle.refusal.specs.Answer.{refusedAt}
 use Rattle.refusal.proofs.Chain.{need-passes, need-refuses}
 use Rattle.tally.specs.Having.{having}
 use Rattle.unfolding.proofs.Numbered.{index-found, marker-in}
-use Rattle.conditions.specs.Answers.{numbered}
+use Rattle.condition_numbers.specs.Answers.{numbered}
 
 module _ (n : Net) where
   -- there is such a condition

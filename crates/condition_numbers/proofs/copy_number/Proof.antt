@@ -1,5 +1,5 @@
--- `conditions::copy_number` meets its contract.
-use Rattle.conditions.proofs.Numbered.{user-place, copy-there, copy-ordinary, copy-no-marker, copy-no-user, flagged-below}
+-- `condition_numbers::copy_number` meets its contract.
+use Rattle.condition_numbers.proofs.Numbered.{user-place, copy-there, copy-ordinary, copy-no-marker, copy-no-user, flagged-below}
 use Rattle.model.specs.Numbering.{width}
 use Rattle.lists.specs.Lists.{sum, index}
 use native.Mathlib.Omega.{arith}
@@ -13,10 +13,10 @@ use Rattle.table.specs.Decoded.{netOf}
 use Rattle.layout.proofs.Counts.{marks-at, uses-at, counted-low}
 use Rattle.layout.proofs.Limits.{unfolds-passed, unfolds-on, unfolds-judged, conditions-are-all}
 use Rattle.unfolding.specs.Markers.{meant}
-use Rattle.conditions.specs.Answers.{numbered}
+use Rattle.condition_numbers.specs.Answers.{numbered}
 use borrow.Author.Needs.{needs}
-use Rattle.conditions.proofs.copy_number.Statement.{statement}
-use Rattle.conditions.proofs.copy_number.Tie as tie
+use Rattle.condition_numbers.proofs.copy_number.Statement.{statement}
+use Rattle.condition_numbers.proofs.copy_number.Tie as tie
 
 returns : tie.Need-returns
 returns c =
