@@ -1,5 +1,2 @@
 pub mod Picks
-pub mod Weights
-pub mod Numbered
 pub mod Calls
-pub mod Inverse

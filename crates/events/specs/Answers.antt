@@ -1,18 +1,16 @@
--- What each call on the unfolding answers, after the prefix that all share.
+-- What the call on an unfolded event's number answers, after the prefix that all share.
 use Prim.Native.Nat.{ℕ}
 use mathlib.Core.List.{List}
 use lib.Dec.{ltb}
 use lib.ListN.{length}
 use Rattle.model.specs.Unfolding.{UnfoldedEvent, origin, basic}
-use Rattle.model.specs.Numbering.{number}
 use Rattle.refusal.specs.declared.Judged.{Judged}
 use Rattle.refusal.specs.declared.Judged.the-variants.{Fine, Refused}
 use Rattle.refusal.specs.Answer.{need}
 use Rattle.table.specs.Decoded.{netOf}
 use Rattle.layout.specs.Unfolds.{unfoldingOf}
-use Rattle.events.specs.declared.Colour.{Colour}
 use Rattle.events.specs.declared.EventOrigin.{EventOrigin}
-use Rattle.events.specs.Colours.{noColour, pushAll, colourOf}
+use Rattle.events.specs.Colours.{noColour, pushAll}
 
 -- An unfolded event behind a number: how many markers its colour has, or 10 past the last (01, Runs across).
 unfoldable pub originJudged : List ℕ → ℕ → Judged
@@ -30,9 +28,3 @@ originIf (Refused refusal) x = noOrigin (Refused refusal)
 -- The event and markers behind a number (01, Runs across).
 unfoldable pub originOf : List ℕ → ℕ → EventOrigin
 originOf s j = originIf (originJudged s j) (origin (netOf s) j)
-
--- The number for an event and markers, 10 where there is no such unfolded event (01, Runs across).
-unfoldable pub numberOf : List ℕ → ℕ → Colour → Judged
-numberOf s e c =
-    let k = number (netOf s) (record { event = e; colour = colourOf c }) in
-    unfoldingOf s (need (ltb k (basic (netOf s) .events)) 10 0 (Fine k))

@@ -1,18 +1,17 @@
-// The numbers of unfolded events both ways: the public calls stand at the end.
+// The event and the markers behind the number of an unfolded event.
 use refusal::Judged;
 use refusal::Marker;
 use refusal::TableEvent;
 use refusal::UnfoldedEvent;
 use unfolding::Found;
 ghost use mathlib.Core.Path.{_≡_};
-ghost use Prim.Native.Nat.{_+_, _≤_, _<_};
+ghost use Prim.Native.Nat.{_<_};
 ghost use Rattle.words.specs.Words.{words};
-ghost use Rattle.model.specs.Unfolding.{markers};
 ghost use Rattle.model.specs.Numbering.{digits};
-ghost use Rattle.events.specs.Colours.{noColour, push, pushAll, colourFrom};
 ghost use Rattle.unfolding.specs.Numbers.{choicesOf};
-ghost use Rattle.events.specs.Numbers.{Picking, weighed, Weighing};
-ghost use Rattle.events.specs.Answers.{noOrigin, originOf, numberOf};
+ghost use Rattle.events.specs.Colours.{noColour, push, pushAll};
+ghost use Rattle.events.specs.Numbers.{Picking};
+ghost use Rattle.events.specs.Answers.{noOrigin, originOf};
 
 // One marker of a colour.
 pub struct Pick(pub Marker);
@@ -28,12 +27,6 @@ pub struct EventOrigin {
     pub answer: Judged,
     pub event: TableEvent,
     pub colour: Colour,
-}
-
-// What a list of markers comes to: the number of colours and the place among them.
-enum Weighed {
-    Is(usize, usize),
-    NoSuch,
 }
 
 // The colour without a marker.
@@ -85,49 +78,6 @@ fn picked<'a>(
     }
 }
 
-// What the markers of c from a place on come to, down the persistent preconditions; that one does not mark is passed up.
-fn weigh<'a>(
-    c: Colour,
-    at: usize,
-    table: &'a [u8],
-    events: usize,
-    markers: &'a [u32],
-    pre: &'a [u8],
-) -> Weighed
-    requires { ⌜ Weighing (now table) (now markers) events (words (now pre)) ⌝ }
-    requires { ⌜ at ≤ c .count ⌝ }
-    requires { ⌜ c .count ≤ 16 ⌝ }
-    ensures { λ r. ⌜ r ≡ weighed (choicesOf (now (table .entry)) (words (now (pre .entry)))) (colourFrom c at) ⌝ }
-{
-    let count = c.count;
-    if pre.len() < 2 {
-        if at == count {
-            return Weighed::Is(1, 0);
-        }
-        return Weighed::NoSuch;
-    }
-    let b = words::word(pre, 0) as usize;
-    if layout::is_persistent(table, b) {
-        if at == count {
-            return Weighed::NoSuch;
-        }
-        let Weighed::Is(weight, number) = weigh(c, at + 1, table, events, markers, &pre[2..]) else {
-            return Weighed::NoSuch;
-        };
-        let p = c.picks[at];
-        let m = p.0;
-        let place = unfolding::marker_place(table, events, b, m);
-        let radix = tally::number(markers, b) as usize;
-        if place < radix {
-            Weighed::Is(radix * weight, place * weight + number)
-        } else {
-            Weighed::NoSuch
-        }
-    } else {
-        weigh(c, at, table, events, markers, &pre[2..])
-    }
-}
-
 // No event and no markers behind a number, with why.
 fn no_origin(answer: Judged) -> EventOrigin
     ensures { λ r. ⌜ r ≡ noOrigin answer ⌝ }
@@ -169,30 +119,4 @@ pub fn event_origin(table: &[u8], j: UnfoldedEvent) -> EventOrigin
         event: TableEvent(e as u16),
         colour,
     }
-}
-
-// The number for an event and markers.
-pub fn event_number(table: &[u8], event: TableEvent, colour: Colour) -> Judged
-    ensures { λ r. ⌜ r ≡ numberOf (now (table .entry)) (event .0) colour ⌝ }
-{
-    let mut markers = [0u32; 256];
-    let mut users = [0u32; 256];
-    let mut bases = [0u32; 257];
-    let r = layout::lay_out(table, &mut markers, &mut users, &mut bases);
-    let Judged::Fine(events) = r else {
-        return r;
-    };
-    let e = event.0;
-    if events <= (e as usize) {
-        return refusal::refused(10, 0);
-    }
-    if 16 < colour.count {
-        return refusal::refused(10, 0);
-    }
-    let pre = tally::list_at(table, table::offset(table, e), false);
-    let w = weigh(colour, 0, table, events, &markers, pre);
-    let Weighed::Is(_, place) = w else {
-        return refusal::refused(10, 0);
-    };
-    Judged::Fine(unfolding::colours_before(table, events, &markers, e as usize) + place)
 }

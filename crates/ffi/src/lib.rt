@@ -18,7 +18,8 @@ ghost use Rattle.replay.specs.Calls.{replayOf, endOf};
 ghost use Rattle.exchange.specs.Calls.{exchangeOf, exchangedOf};
 ghost use Rattle.runs.specs.Runs.{runKind, liftedKind, readAnswer, runInto, writeAnswer, recordInto};
 ghost use Rattle.layout.specs.Unfolds.{unfoldingOf};
-ghost use Rattle.events.specs.Answers.{originOf, numberOf};
+ghost use Rattle.events.specs.Answers.{originOf};
+ghost use Rattle.event_numbers.specs.Answers.{numberOf};
 ghost use Rattle.conditions.specs.Origins.{conditionOriginOf};
 ghost use Rattle.starting.specs.Calls.{unfoldedStartOf, unfoldedStartedOf};
 ghost use Rattle.listed.specs.Calls.{listingOf, listedOf};
@@ -180,7 +181,7 @@ pub extern "C" fn dovetrellis_event_number(
     ensures number { λ _. ⌜ now (unfolded .exit) ≡ valueOr (numberOf (now (table .entry)) event (colourFor (now (markers .entry)))) (now (unfolded .entry)) ⌝ }
 {
     let colour = outward::colour_of(markers);
-    let judged = events::event_number(table, TableEvent(event), colour);
+    let judged = event_numbers::event_number(table, TableEvent(event), colour);
     outward::put_number(judged, unfolded);
     outward::told(judged)
 }

@@ -28,8 +28,9 @@ use Rattle.unfolding.proofs.Numbered.{index-found}
 use Rattle.events.specs.declared.Colour.{Colour}
 use Rattle.events.specs.declared.EventOrigin.{EventOrigin}
 use Rattle.events.specs.Colours.{pushAll, noColour, markerAt, colourOf}
-use Rattle.events.specs.Answers.{originIf, originJudged, originOf, numberOf}
-use Rattle.events.proofs.Inverse.{number-origin, origin-number}
+use Rattle.events.specs.Answers.{originIf, originJudged, originOf}
+use Rattle.event_numbers.specs.Answers.{numberOf}
+use Rattle.inverse.proofs.Numbers.{number-origin, origin-number}
 use Rattle.inverse.proofs.Prefix.{prefix-passed, fine-same}
 use Rattle.inverse.proofs.Colours.{colour-told}
 

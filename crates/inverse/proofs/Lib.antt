@@ -2,4 +2,5 @@
 pub mod Prefix
 pub mod Conditions
 pub mod Colours
+pub mod Numbers
 pub mod Events

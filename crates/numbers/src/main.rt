@@ -21,7 +21,7 @@ fn event_back(table: &[u8], j: u16) -> bool {
     let o = events::event_origin(table, UnfoldedEvent(j));
     let e = o.event;
     let c = o.colour;
-    is_number(events::event_number(table, e, c), j as usize)
+    is_number(event_numbers::event_number(table, e, c), j as usize)
 }
 
 // Whether an unfolded condition's number comes back from its condition, or from that with its marker and user.

@@ -20,7 +20,7 @@ use Rattle.table.specs.Decoded.{netOf}
 use Rattle.layout.specs.Unfolds.{refusedOr, unfoldingOf}
 use Rattle.events.specs.declared.Colour.{Colour}
 use Rattle.events.specs.Colours.{colourOf}
-use Rattle.events.specs.Answers.{numberOf}
+use Rattle.event_numbers.specs.Answers.{numberOf}
 use Rattle.unfolding.proofs.Numbered.{events-basic}
 use Rattle.condition_numbers.specs.Answers.{numbered}
 use Rattle.outward.specs.Words.{conditionFor}

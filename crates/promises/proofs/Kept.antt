@@ -19,7 +19,7 @@ use Rattle.game.specs.Calls.{leaves, fireOf, firedOf}
 use Rattle.replay.specs.Calls.{replayOf, endOf, replayFromOf, endFromOf}
 use Rattle.exchange.specs.Calls.{exchangeOf, exchangedOf}
 use Rattle.runs.specs.Runs.{runKind, liftedKind, readAnswer, writeAnswer, runInto, recordInto}
-use Rattle.events.specs.Answers as unfolded
+use Rattle.event_numbers.specs.Answers as unfolded
 use Rattle.events.specs.Answers.{originJudged}
 use Rattle.condition_numbers.specs.Answers.{numbered}
 use Rattle.conditions.specs.Origins.{conditionJudged, originNumber}
@@ -53,7 +53,7 @@ use Rattle.unfolding.proofs.condition_count.Reads as unfolded-condition-count
 use Rattle.unfolding.proofs.event_count.Reads as unfolded-event-count
 use Rattle.parts.proofs.persistent.Reads as persistent
 use Rattle.events.proofs.event_origin.Reads as event-origin
-use Rattle.events.proofs.event_number.Reads as event-number
+use Rattle.event_numbers.proofs.event_number.Reads as event-number
 use Rattle.condition_numbers.proofs.ordinary_number.Reads as ordinary-number
 use Rattle.condition_numbers.proofs.copy_number.Reads as copy-number
 use Rattle.conditions.proofs.condition_origin.Reads as condition-origin

@@ -27,7 +27,7 @@ use Rattle.exchange.specs.Calls.{exchangeOf, exchangedOf}
 use Rattle.runs.specs.Runs.{runKind, liftedKind, readAnswer, runInto, writeAnswer, recordInto}
 use Rattle.layout.specs.Unfolds.{refusedOr, unfoldingOf}
 use Rattle.events.specs.declared.Colour.{Colour}
-use Rattle.events.specs.Answers as unfolded
+use Rattle.event_numbers.specs.Answers as unfolded
 use Rattle.events.specs.Answers.{originJudged, originOf}
 use Rattle.conditions.specs.declared.ConditionOrigin.{ConditionOrigin}
 use Rattle.conditions.specs.declared.ConditionOrigin.the-variants as show

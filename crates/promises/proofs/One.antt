@@ -38,7 +38,7 @@ use Rattle.runs.proofs.write_lifted.Reads as write-lifted
 use Rattle.unfolding.proofs.condition_count.Reads as unfolded-condition-count
 use Rattle.unfolding.proofs.event_count.Reads as unfolded-event-count
 use Rattle.events.proofs.event_origin.Reads as event-origin
-use Rattle.events.proofs.event_number.Reads as event-number
+use Rattle.event_numbers.proofs.event_number.Reads as event-number
 use Rattle.condition_numbers.proofs.ordinary_number.Reads as ordinary-number
 use Rattle.condition_numbers.proofs.copy_number.Reads as copy-number
 use Rattle.conditions.proofs.condition_origin.Reads as condition-origin

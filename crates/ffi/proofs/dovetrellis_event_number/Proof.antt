@@ -5,7 +5,7 @@ use Prim.Native.Nat.{_<_}
 use Rattle.refusal.specs.Answer.{valueOf}
 use Rattle.outward.proofs.Small.{number-small}
 use Rattle.events.specs.declared.Colour.{Colour}
-use Rattle.events.specs.Answers.{numberOf}
+use Rattle.event_numbers.specs.Answers.{numberOf}
 use Rattle.outward.specs.Told.{answerOf, valueOr}
 use borrow.Author.Needs.{needs}
 use Rattle.ffi.proofs.dovetrellis_event_number.Statement.{statement}

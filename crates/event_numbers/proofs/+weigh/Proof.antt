@@ -1,24 +1,24 @@
--- `events::weigh` meets its contract.
+-- `event_numbers::weigh` meets its contract.
 use mathlib.Core.Path.{_∙_, sym, ap}
 use Prim.Native.Nat.{_+_, _*_, ℕ, _<_}
 use lib.ListN.{length}
-use Rattle.events.specs.declared.Weighed.the-variants.{Is}
+use Rattle.event_numbers.specs.declared.Weighed.the-variants.{Is}
 use Rattle.events.specs.Colours.{colourFrom}
 use Rattle.events.proofs.Picks.{part-length}
-use Rattle.events.proofs.Weights.{weighed-end, weighed-many, weighing-more, few-markers, no-marker, not-marking, marking, weight-fits, number-fits, weighing-past, weighed-past}
+use Rattle.event_numbers.proofs.Weights.{weighed-end, weighed-many, weighing-more, few-markers, no-marker, not-marking, marking, weight-fits, number-fits, weighing-past, weighed-past}
 use borrow.Author.Needs.{needs}
 use native.Mathlib.Omega.{arith}
 use borrow.Fn.Kinds.{In}
 use borrow.Fn.PlainCycle.{Measures, is, falls, and}
-use Rattle.events.proofs.weigh.Reads as weigh
-use Rattle.events.proofs.weigh.Kinds as weigh-kinds
-use Rattle.events.proofs.+weigh.Lts-weigh as weigh-lts
+use Rattle.event_numbers.proofs.weigh.Reads as weigh
+use Rattle.event_numbers.proofs.weigh.Kinds as weigh-kinds
+use Rattle.event_numbers.proofs.+weigh.Lts-weigh as weigh-lts
 use Rattle.layout.proofs.is_persistent.Reads as is-persistent-reads
 use Rattle.tally.proofs.number.Reads as number-reads
 use Rattle.unfolding.proofs.marker_place.Reads as marker-place-reads
 use Rattle.words.proofs.word.Reads as word-reads
-use Rattle.events.proofs.+weigh.{statement}
-use Rattle.events.proofs.+weigh.Tie.{close}
+use Rattle.event_numbers.proofs.+weigh.{statement}
+use Rattle.event_numbers.proofs.+weigh.Tie.{close}
 
 abbrev μ-weigh : Measures 1 weigh-kinds.ps ℕ
 μ-weigh κs a = length (a .1 .1 .1 .1 .1 .0 .now)

@@ -8,7 +8,7 @@ use mathlib.Core.List.{List, [], _∷_}
 use mathlib.Core.Bool.{Bool, true, false, and-false, cond}
 use lib.ListN.{length, getD}
 use borrow.Author.Tests.{lt-ltb, le-ltb}
-use Rattle.lists.specs.Lists.{index, count}
+use Rattle.lists.specs.Lists.{index}
 use Rattle.words.specs.Words.{wordAt, words}
 use Rattle.model.specs.Runs.{Marker}
 use Rattle.model.specs.Unfolding.{sameMarker, markers}
@@ -18,14 +18,14 @@ use Rattle.table.specs.Decoded.{netOf}
 use Rattle.layout.specs.Colours.{flagged}
 use Rattle.layout.proofs.Products.{words-short}
 use Rattle.layout.proofs.Counts.{marks-at}
 use Rattle.events.specs.declared.Colour.{Colour}
-use Rattle.events.specs.declared.Weighed.the-variants.{Is, NoSuch}
+use Rattle.event_numbers.specs.declared.Weighed.the-variants.{Is, NoSuch}
 use Rattle.events.specs.Colours.{markerAt, colourFrom}
 use Rattle.unfolding.specs.Numbers.{choicesOf, allMark}
-use Rattle.events.specs.Numbers.{weighed, Weighing}
+use Rattle.event_numbers.specs.Weights.{weighed, Weighing}
 use Rattle.unfolding.proofs.Places.{some-marker}
 use Rattle.unfolding.proofs.Numbered.{radix-below}
 use Rattle.events.proofs.Picks.{after, first-inside, after-inside, choices-more, choices-past}
 
 -- ---- a list of markers weighed
 
