@@ -74,12 +74,16 @@ module _ (c : Colour) (at : ℕ) where
   pub colour-more : at < c .count → colourFrom c at ≡ markerAt c at ∷ colourFrom c (at + 1)
   colour-more h = let z : c .count - at ≡ suc (c .count - (at + 1)) = omega arith in rw (z, add-one)
 
-module _ (s : List ℕ) (pre : List ℕ) (c : Colour) (at : ℕ) where
-  pub weighed-end : length pre < 2 → at ≡ c .count → Is 1 0 ≡ weighed (choicesOf s (words pre)) (colourFrom c at)
-  weighed-end h e = rw (words-short pre h, colour-none c at e)
+-- where no precondition is left
+module _ (c : Colour) (at : ℕ) where
+  pub none-left : at ≡ c .count → Is 1 0 ≡ weighed [] (colourFrom c at)
+  none-left e = rw (colour-none c at e)
 
-  pub weighed-many : length pre < 2 → at < c .count → NoSuch ≡ weighed (choicesOf s (words pre)) (colourFrom c at)
-  weighed-many h l = rw (words-short pre h, colour-more c at l)
+  pub some-left : at < c .count → NoSuch ≡ weighed [] (colourFrom c at)
+  some-left l = rw (colour-more c at l)
+
+pub weighed-none : (s pre : List ℕ) → length pre < 2 → (c : List Marker) → weighed [] c ≡ weighed (choicesOf s (words pre)) c
+weighed-none s pre h c = rw (words-short pre h)
 
 -- ---- a step down the preconditions
 

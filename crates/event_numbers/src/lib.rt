@@ -3,6 +3,7 @@ use events::Colour;
 use refusal::Judged;
 use refusal::TableEvent;
 ghost use mathlib.Core.Path.{_≡_};
+ghost use mathlib.Core.List.{[]};
 ghost use Prim.Native.Nat.{_≤_};
 ghost use Rattle.words.specs.Words.{words};
 ghost use Rattle.unfolding.specs.Numbers.{choicesOf};
@@ -14,6 +15,17 @@ ghost use Rattle.event_numbers.specs.Answers.{numberOf};
 enum Weighed {
     Is(usize, usize),
     NoSuch,
+}
+
+// What the markers of c from a place on come to where no precondition is left: one colour, which has no marker.
+fn weigh_none(c: Colour, at: usize) -> Weighed
+    requires { ⌜ at ≤ c .count ⌝ }
+    ensures { λ r. ⌜ r ≡ weighed [] (colourFrom c at) ⌝ }
+{
+    if at == c.count {
+        return Weighed::Is(1, 0);
+    }
+    Weighed::NoSuch
 }
 
 // What the markers of c from a place on come to, down the persistent preconditions; that one does not mark is passed up.
@@ -30,16 +42,12 @@ fn weigh<'a>(
     requires { ⌜ c .count ≤ 16 ⌝ }
     ensures { λ r. ⌜ r ≡ weighed (choicesOf (now (table .entry)) (words (now (pre .entry)))) (colourFrom c at) ⌝ }
 {
-    let count = c.count;
     if pre.len() < 2 {
-        if at == count {
-            return Weighed::Is(1, 0);
-        }
-        return Weighed::NoSuch;
+        return weigh_none(c, at);
     }
     let b = words::word(pre, 0) as usize;
     if layout::is_persistent(table, b) {
-        if at == count {
+        if at == c.count {
             return Weighed::NoSuch;
         }
         let Weighed::Is(weight, number) = weigh(c, at + 1, table, events, markers, &pre[2..]) else {
