@@ -25,11 +25,11 @@ use Rattle.model.proofs.Counts.{distinct-users}
 use Rattle.table.specs.Decoded.{netOf}
 use Rattle.tally.specs.Having.{Listed}
 use Rattle.tally.proofs.Events.{within-limits, list-read, list-ascends, list-inside}
-use Rattle.game.specs.declared.Step.the-variants.{Goes, Stops}
-use Rattle.game.specs.declared.Cause.the-variants.{Lacks, Meets}
-use Rattle.game.specs.declared.Failing.{Failing}
-use Rattle.game.specs.declared.Failing.the-variants.{Nothing, At}
-use Rattle.game.specs.Steps.{failingOf, stepOf}
+use Rattle.step.specs.declared.Step.the-variants.{Goes, Stops}
+use Rattle.step.specs.declared.Cause.the-variants.{Lacks, Meets}
+use Rattle.step.specs.declared.Failing.{Failing}
+use Rattle.step.specs.declared.Failing.the-variants.{Nothing, At}
+use Rattle.step.specs.Steps.{failingOf, stepOf}
 use Rattle.decided.specs.Decided.{hasMarked, ready, clear, stoppedBy}
 use Rattle.decided.specs.Kept.{markerAt, keptMarker, readyAt, backAt, clearAt, Deciding}
 use Rattle.decided.proofs.Decision.{user-reads}

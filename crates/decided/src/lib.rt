@@ -1,8 +1,8 @@
 // Whether an unfolded event can fire, decided from the table's marking and the events that have occurred, so that no unfolded marking is
 // kept; `decide` stands at the end.
-use game::Cause;
-use game::Failing;
-use game::Step;
+use step::Cause;
+use step::Failing;
+use step::Step;
 ghost use mathlib.Core.Path.{_≡_};
 ghost use lib.ListN.{set};
 ghost use Rattle.lists.specs.Lists.{failing};
@@ -10,7 +10,7 @@ ghost use Rattle.words.specs.Words.{words};
 ghost use Rattle.model.specs.Lent.{marking};
 ghost use Rattle.table.specs.Decoded.{netOf};
 ghost use Rattle.tally.specs.Having.{Listed, Members};
-ghost use Rattle.game.specs.Steps.{failingOf, stepOf};
+ghost use Rattle.step.specs.Steps.{failingOf, stepOf};
 ghost use Rattle.decided.specs.Decided.{stoppedBy};
 ghost use Rattle.decided.specs.Kept.{markerAt, Kept, Keeping, Choosing, Chosen, markedAt, readyAt, backAt, clearAt, Deciding};
 

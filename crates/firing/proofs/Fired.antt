@@ -18,11 +18,11 @@ use Rattle.tally.specs.Having.{listOf}
 use Rattle.model.specs.Lent.{bit, bytes, marking}
 use Rattle.model.proofs.Lent.{bytes-are}
 use Rattle.refusal.specs.declared.Judged.the-variants.{Fine}
-use Rattle.game.specs.Lent.{Lent}
-use Rattle.game.specs.Steps.{setAll, stepped}
+use Rattle.step.specs.Lent.{Lent}
+use Rattle.step.specs.Steps.{setAll, stepped}
 use Rattle.game.specs.Calls.{passing, stoppedAt, leaves}
-use Rattle.game.proofs.Bytes.{lent-at}
-use Rattle.game.proofs.Firing.{length-all, all-at}
+use Rattle.step.proofs.Bytes.{lent-at}
+use Rattle.step.proofs.Firing.{length-all, all-at}
 use Rattle.walking.specs.declared.Cause.{Cause}
 use Rattle.walking.specs.declared.Step.{Step}
 use Rattle.walking.specs.declared.Step.the-variants.{Goes, Stops}

@@ -27,8 +27,8 @@ use Rattle.unfolding.proofs.Calls.{conditions-count}
 use Rattle.unfolding.proofs.Numbered.{events-basic}
 use Rattle.game.specs.Lent.{firstAbove, lent}
 use Rattle.game.specs.Calls.{passing, stoppedAt, leaves}
-use Rattle.game.specs.Steps.{stepped}
-use Rattle.game.proofs.Bytes.{lent-of}
+use Rattle.step.specs.Steps.{stepped}
+use Rattle.step.proofs.Bytes.{lent-of}
 use Rattle.game.proofs.Marked.{wrong-length, byte-above, all-right}
 use Rattle.walking.specs.declared.Step.{Step}
 use Rattle.firing.specs.Calls.{unfoldedFireOf, unfoldedFiredOf}

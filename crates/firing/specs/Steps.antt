@@ -11,7 +11,8 @@ use Rattle.refusal.specs.Answer.{refusedAt}
 use Rattle.table.specs.Decoded.{netOf}
 use Rattle.layout.specs.Unfolds.{unfoldingOf}
 use Rattle.layout.specs.Laid.{Laid}
-use Rattle.game.specs.Lent.{Lent, lent}
+use Rattle.step.specs.Lent.{Lent}
+use Rattle.game.specs.Lent.{lent}
 use Rattle.walking.specs.declared.Cause.{Cause}
 use Rattle.walking.specs.declared.Cause.the-variants.{Unknown, Lacks, Meets}
 use Rattle.walking.specs.declared.Step.{Step}

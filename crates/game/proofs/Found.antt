@@ -17,12 +17,13 @@ use Rattle.records.specs.Records.{conditions}
 use Rattle.table.specs.Walk.{judgeOf, offsetOf}
 use Rattle.table.specs.Decoded.{netOf}
 use Rattle.table.proofs.Decoded.{net-judged}
-use Rattle.game.specs.declared.Cause.the-variants.{Unknown}
-use Rattle.game.specs.declared.Step.{Step}
-use Rattle.game.specs.declared.Step.the-variants.{Stops}
+use Rattle.step.specs.declared.Cause.the-variants.{Unknown}
+use Rattle.step.specs.declared.Step.{Step}
+use Rattle.step.specs.declared.Step.the-variants.{Stops}
 use Rattle.model.specs.Lent.{bytes, marking}
-use Rattle.game.specs.Lent.{Lent, lent}
-use Rattle.game.specs.Steps.{recordNet, stepOf, stepped, answeredOf}
+use Rattle.step.specs.Lent.{Lent}
+use Rattle.game.specs.Lent.{lent}
+use Rattle.step.specs.Steps.{recordNet, stepOf, stepped, answeredOf}
 use Rattle.game.specs.Calls.{passing, onMarking, leaves, stoppedAt, firingOf, firedOf}
 use Rattle.game.specs.Ready.{readyOf}
 use Rattle.game.proofs.Marked.{conditions-are, on-then, on-fine}

@@ -1,6 +1,4 @@
--- The laws, from bytes up to the calls.
-pub mod Bytes
-pub mod Lists
-pub mod Firing
+-- The laws, from the lent marking up to the calls.
+pub mod Above
 pub mod Marked
 pub mod Found

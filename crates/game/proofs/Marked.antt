@@ -16,9 +16,10 @@ use Rattle.table.specs.Walk.{judgeOf}
 use Rattle.table.specs.Decoded.{netOf}
 use Rattle.table.proofs.Walk.{accepted}
 use Rattle.table.proofs.Decoded.{net-judged}
-use Rattle.game.specs.Lent.{Lent, firstAbove, lent}
+use Rattle.step.specs.Lent.{Lent}
+use Rattle.game.specs.Lent.{firstAbove, lent}
 use Rattle.game.specs.Calls.{onMarking}
-use Rattle.game.proofs.Bytes.{lent-of}
+use Rattle.step.proofs.Bytes.{lent-of}
 
 -- ---- a link of the chain, and what follows the chain
 

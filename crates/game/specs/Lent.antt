@@ -1,17 +1,11 @@
--- When lent bytes are those of a marking, and when they are refused.
-use mathlib.Core.Path.{_≡_}
+-- When a lent marking is refused.
 use mathlib.Core.List.{List}
 use Prim.Native.Nat.{ℕ}
 use lib.Dec.{eqb, ltb, leb}
 use lib.ListN.{length}
 use Rattle.lists.specs.Lists.{index}
-use Rattle.model.specs.Lent.{bytes, marking}
 use Rattle.refusal.specs.declared.Judged.{Judged}
 use Rattle.refusal.specs.Answer.{need}
-
--- Bytes are those of a marking if each is 0 or 1 (01, Table records).
-abbrev pub Lent : List ℕ → Type 0
-Lent l = l ≡ bytes (length l) (marking l)
 
 -- The index of the first byte above 1, or the length where there is none (01, Refusal numbers).
 abbrev pub firstAbove : List ℕ → ℕ

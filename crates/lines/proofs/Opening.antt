@@ -23,8 +23,8 @@ use Rattle.records.specs.Records.{conditions}
 use Rattle.table.specs.Walk.{judgeOf}
 use Rattle.table.specs.Decoded.{netOf}
 use Rattle.table.proofs.Sound.{tabled}
-use Rattle.game.specs.Lent.{Lent}
-use Rattle.game.proofs.Bytes.{lent-bytes}
+use Rattle.step.specs.Lent.{Lent}
+use Rattle.step.proofs.Bytes.{lent-bytes}
 use Rattle.game.proofs.Marked.{conditions-are}
 use Rattle.replay.specs.Played.{Indexed}
 use Rattle.runs.specs.Runs.{runKind, runOf, readAnswer}

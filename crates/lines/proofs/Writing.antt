@@ -16,9 +16,9 @@ use Rattle.refusal.specs.declared.Judged.{Judged}
 use Rattle.refusal.specs.Answer.{valueOf, written}
 use Rattle.table.specs.Decoded.{netOf}
 use Rattle.table.proofs.Walk.{accepted}
-use Rattle.game.specs.Lent.{Lent}
-use Rattle.game.specs.Steps.{stepped}
-use Rattle.game.proofs.Bytes.{lent-bytes}
+use Rattle.step.specs.Lent.{Lent}
+use Rattle.step.specs.Steps.{stepped}
+use Rattle.step.proofs.Bytes.{lent-bytes}
 use Rattle.listing.specs.declared.Piece.{Piece}
 use Rattle.listing.specs.Text.{newline, stepLine}
 use Rattle.listing.specs.Calls.{heldIn, firstIn, nextOf, textOf, pieceOf}

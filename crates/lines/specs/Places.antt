@@ -6,7 +6,7 @@ use lib.Dec.{ltb}
 use lib.ListN.{length, getD}
 use Rattle.model.specs.Net.{Net, stopping, fire}
 use Rattle.model.specs.Lent.{bytes, marking}
-use Rattle.game.specs.Steps.{stepped}
+use Rattle.step.specs.Steps.{stepped}
 use Rattle.listing.specs.Text.{newline, endWords, startLine, stepLine}
 use Rattle.listing.specs.Calls.{heldIn, firstIn, nextOf, firstPiece, morePiece}
 use Rattle.lines.specs.declared.Place.{Place}

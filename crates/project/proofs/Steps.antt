@@ -31,15 +31,15 @@ use Rattle.table.proofs.Sound.{tabled}
 use Rattle.tally.proofs.Events.{within-limits, list-read, list-ascends, list-inside}
 use Rattle.layout.proofs.Counts.{sum-part}
 use Rattle.unfolding.specs.Numbers.{choicesOf}
-use Rattle.game.specs.declared.Cause.{Cause}
-use Rattle.game.specs.declared.Cause.the-variants.{Unknown}
-use Rattle.game.specs.declared.Step.{Step}
-use Rattle.game.specs.declared.Step.the-variants.{Goes, Stops}
-use Rattle.game.specs.Lent.{Lent}
-use Rattle.game.specs.Steps.{recordNet, causeOf, causeNumber, stepOf}
+use Rattle.step.specs.declared.Cause.{Cause}
+use Rattle.step.specs.declared.Cause.the-variants.{Unknown}
+use Rattle.step.specs.declared.Step.{Step}
+use Rattle.step.specs.declared.Step.the-variants.{Goes, Stops}
+use Rattle.step.specs.Lent.{Lent}
+use Rattle.step.specs.Steps.{recordNet, causeOf, causeNumber, stepOf}
 use Rattle.game.proofs.Found.{stopping-found, fire-found}
 use Rattle.replay.proofs.Playing.{fired-marking}
-use Rattle.game.proofs.Bytes.{lent-bytes, lent-at}
+use Rattle.step.proofs.Bytes.{lent-bytes, lent-at}
 use Rattle.across.specs.Prepared.{Around, Between}
 use Rattle.decided.specs.Decided.{stoppedBy, numberOfStop}
 use Rattle.decided.specs.Kept.{markerAt, Choosing, Chosen, Deciding}

@@ -26,12 +26,12 @@ use Rattle.table.specs.Walk.{judgeOf}
 use Rattle.table.specs.Decoded.{netOf}
 use Rattle.table.proofs.Decoded.{net-judged}
 use Rattle.table.proofs.Sound.{tabled}
-use Rattle.game.specs.declared.Cause.{Cause}
-use Rattle.game.specs.declared.Step.{Step}
-use Rattle.game.specs.declared.Step.the-variants.{Goes, Stops}
-use Rattle.game.specs.Steps.{setAll, recordNet, causeNumber, stepOf, stepped, answeredOf}
-use Rattle.game.proofs.Bytes.{lent-bytes}
-use Rattle.game.proofs.Firing.{step-written}
+use Rattle.step.specs.declared.Cause.{Cause}
+use Rattle.step.specs.declared.Step.{Step}
+use Rattle.step.specs.declared.Step.the-variants.{Goes, Stops}
+use Rattle.step.specs.Steps.{setAll, recordNet, causeNumber, stepOf, stepped, answeredOf}
+use Rattle.step.proofs.Bytes.{lent-bytes}
+use Rattle.step.proofs.Firing.{step-written}
 use Rattle.decided.specs.Decided.{numberOfStop}
 use Rattle.decided.specs.Kept.{Kept}
 use Rattle.decided.proofs.Places.{marker-first}
@@ -86,9 +86,9 @@ walked-start s events j w state seen places kept short isState isSeen isPlaces i
 -- ---- the end
 
 some-stop : (o : Option Stop) (x : Cause) → numberOfStop o ≡ causeNumber x → (v : Stop) × (o ≡ some v) × (stopNumber v ≡ causeNumber x)
-some-stop none Rattle.game.specs.declared.Cause.the-variants.Unknown e = absurd (omega arith)
-some-stop none (Rattle.game.specs.declared.Cause.the-variants.Lacks b) e = absurd (omega arith)
-some-stop none (Rattle.game.specs.declared.Cause.the-variants.Meets b) e = absurd (omega arith)
+some-stop none Rattle.step.specs.declared.Cause.the-variants.Unknown e = absurd (omega arith)
+some-stop none (Rattle.step.specs.declared.Cause.the-variants.Lacks b) e = absurd (omega arith)
+some-stop none (Rattle.step.specs.declared.Cause.the-variants.Meets b) e = absurd (omega arith)
 some-stop (some v) x e = (v, refl, e)
 
 module _ (n : Net) (w : List ℕ) (k : ℕ) (state seen places kept : List ℕ) (c : Walked n w k state seen places kept) where

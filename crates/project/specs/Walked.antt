@@ -16,10 +16,10 @@ use Rattle.refusal.specs.declared.Judged.the-variants.{Fine}
 use Rattle.table.specs.Walk.{judgeOf}
 use Rattle.table.specs.Decoded.{netOf}
 use Rattle.layout.specs.Laid.{Sums, Counted}
-use Rattle.game.specs.declared.Step.{Step}
-use Rattle.game.specs.declared.Step.the-variants.{Goes, Stops}
-use Rattle.game.specs.Lent.{Lent}
-use Rattle.game.specs.Steps.{recordNet, causeNumber}
+use Rattle.step.specs.declared.Step.{Step}
+use Rattle.step.specs.declared.Step.the-variants.{Goes, Stops}
+use Rattle.step.specs.Lent.{Lent}
+use Rattle.step.specs.Steps.{recordNet, causeNumber}
 use Rattle.game.specs.Calls.{passing}
 use Rattle.replay.specs.Played.{Indexed}
 use Rattle.across.specs.Prepared.{Between}

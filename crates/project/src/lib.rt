@@ -1,14 +1,14 @@
 // The projection of an unfolded run: its steps replayed over the table's marking and the events that have occurred, then read back.
-use game::Cause;
-use game::Step;
 use refusal::Judged;
+use step::Cause;
+use step::Step;
 ghost use mathlib.Core.Path.{_≡_};
 ghost use Prim.Native.Nat.{_<_};
 ghost use lib.ListN.{length, replicate};
 ghost use Rattle.model.specs.Net.{fire};
 ghost use Rattle.model.specs.Lent.{bytes, marking};
 ghost use Rattle.table.specs.Decoded.{netOf};
-ghost use Rattle.game.specs.Steps.{recordNet};
+ghost use Rattle.step.specs.Steps.{recordNet};
 ghost use Rattle.project.specs.Walked.{Equipped, Walked, Stepped, Fires, Replayed, Replayable, Reading, Read};
 ghost use Rattle.project.specs.Calls.{projectOf, projectedOf};
 
@@ -18,8 +18,8 @@ fn fire_at(table: &[u8], at: usize, state: &mut [u8])
     ensures { λ _. ⌜ now (state .exit) ≡ bytes (length (now (state .entry))) (fire (recordNet (now (table .entry)) at) (marking (now (state .entry))) 0) ⌝ }
 {
     let flags = records::part_of(table, 4, words::word(table, 0) as usize);
-    game::set_all(flags, records::pre_at(table, at), 0, state);
-    game::set_all(&table[..0], records::post_at(table, at), 1, state);
+    step::set_all(flags, records::pre_at(table, at), 0, state);
+    step::set_all(&table[..0], records::post_at(table, at), 1, state);
 }
 
 // Step k of an unfolded run: its event is found, its colour laid out and tested, and the event fired on the table's marking.
@@ -117,7 +117,7 @@ fn play<'a>(
             kept,
         );
         let Step::Goes = step else {
-            return game::answered(step, k, 0);
+            return step::answered(step, k, 0);
         };
         k = k + 1;
     }

@@ -14,11 +14,11 @@ use Rattle.model.specs.Lent.{marking}
 use Rattle.model.specs.Across.{stuck, tooLong, unfoldingRefused}
 use Rattle.refusal.specs.declared.Judged.{Judged}
 use Rattle.table.specs.Decoded.{netOf}
-use Rattle.game.specs.declared.Cause.{Cause}
-use Rattle.game.specs.declared.Cause.the-variants.{Unknown, Lacks, Meets}
-use Rattle.game.specs.declared.Step.{Step}
-use Rattle.game.specs.declared.Step.the-variants.{Goes, Stops}
-use Rattle.game.specs.Steps.{recordNet, stepOf, stepped, answeredOf}
+use Rattle.step.specs.declared.Cause.{Cause}
+use Rattle.step.specs.declared.Cause.the-variants.{Unknown, Lacks, Meets}
+use Rattle.step.specs.declared.Step.{Step}
+use Rattle.step.specs.declared.Step.the-variants.{Goes, Stops}
+use Rattle.step.specs.Steps.{recordNet, stepOf, stepped, answeredOf}
 use Rattle.game.specs.Calls.{leaves, onMarking}
 use Rattle.replay.specs.Calls.{begunAt}
 use Rattle.across.specs.Prepared.{preparedOf}
@@ -28,8 +28,8 @@ use Rattle.rules.proofs.conditions_record.Reads as conditions-record
 use Rattle.rules.proofs.event_record.Reads as event-record
 use Rattle.rules.proofs.marking_record.Reads as marking-record
 use Rattle.game.proofs.judge_lent.Reads as judge-lent
-use Rattle.game.proofs.answered.Reads as answered
-use Rattle.game.proofs.step_at.Reads as step-at
+use Rattle.step.proofs.answered.Reads as answered
+use Rattle.step.proofs.step_at.Reads as step-at
 use Rattle.replay.proofs.step_event.Reads as step-event
 use Rattle.replay.proofs.play.Reads as play
 use Rattle.replay.proofs.write_end.Reads as write-end

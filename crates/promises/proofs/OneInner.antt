@@ -39,9 +39,10 @@ use Rattle.records.proofs.marking_at.Reads as marking-at
 use Rattle.table.proofs.is_event.Reads as is-event
 use Rattle.table.proofs.offset.Reads as offset
 use Rattle.game.proofs.first_above.Reads as first-above
-use Rattle.game.proofs.set_all.Reads as set-all
-use Rattle.game.proofs.step_at.Reads as step-at
-use Rattle.game.proofs.answered.Reads as answered
+use Rattle.step.proofs.set_all.Reads as set-all
+use Rattle.step.proofs.test_at.Reads as test-at
+use Rattle.step.proofs.step_at.Reads as step-at
+use Rattle.step.proofs.answered.Reads as answered
 use Rattle.game.proofs.judge_lent.Reads as judge-lent
 use Rattle.replay.proofs.start.Reads as played-start
 use Rattle.replay.proofs.step_event.Reads as step-event
@@ -159,6 +160,9 @@ first-above-one κs a r q x y h g = h ∙ sym g
 
 pub set-all-one : (κs : _) (a : _) (r q : _) (x y : _) → set-all.Learnt κs a r x → set-all.Learnt κs a q y → now (x .1 .1 .1 .0) ≡ now (y .1 .1 .1 .0)
 set-all-one κs a r q x y h g = h ∙ sym g
+
+pub test-at-one : (κs : _) (a : _) (r q : _) (x y : _) → test-at.Learnt κs a r x → test-at.Learnt κs a q y → r ≡ q
+test-at-one κs a r q x y h g = h ∙ sym g
 
 pub step-at-one : (κs : _) (a : _) (r q : _) (x y : _) → step-at.Learnt κs a r x → step-at.Learnt κs a q y → (r ≡ q) × (now (x .1 .1 .0) ≡ now (y .1 .1 .0))
 step-at-one κs a r q x y h g = (h .0 ∙ sym (g .0), h .1 ∙ sym (g .1))

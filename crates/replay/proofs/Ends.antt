@@ -26,12 +26,12 @@ use Rattle.table.specs.Decoded.{netOf}
 use Rattle.table.proofs.Sound.{tabled, accepted-sound}
 use Rattle.records.specs.Records.{conditions}
 use Rattle.model.specs.Lent.{bit, bytes, marking}
-use Rattle.game.specs.Lent.{Lent}
+use Rattle.step.specs.Lent.{Lent}
 use Rattle.game.specs.Calls.{passing, onMarking, leaves}
 use Rattle.replay.specs.Calls.{begunAt, playedOf, endOver, replayOf, replayFromOf}
 use Rattle.replay.specs.Played.{Plays}
 use Rattle.model.proofs.Lent.{length-bytes, bytes-are, marking-bytes}
-use Rattle.game.proofs.Bytes.{lent-bytes, lent-of, lent-at}
+use Rattle.step.proofs.Bytes.{lent-bytes, lent-of, lent-at}
 use Rattle.game.proofs.Marked.{conditions-are, on-then, on-fine}
 
 -- ---- bytes copied

@@ -20,9 +20,9 @@ use Rattle.table.specs.Decoded.{netOf}
 use Rattle.table.proofs.Walk.{accepted}
 use Rattle.table.proofs.Decoded.{start-read}
 use Rattle.model.specs.Lent.{bytes}
-use Rattle.game.specs.Steps.{setAll}
+use Rattle.step.specs.Steps.{setAll}
 use Rattle.replay.specs.Played.{Indexed}
-use Rattle.game.proofs.Firing.{put-all}
+use Rattle.step.proofs.Firing.{put-all}
 
 -- ---- the index
 

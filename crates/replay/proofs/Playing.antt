@@ -23,18 +23,18 @@ use Rattle.refusal.specs.declared.Judged.the-variants.{Fine}
 use Rattle.refusal.specs.Answer.{refusedAt}
 use Rattle.refusal.proofs.Chain.{never-both}
 use borrow.Author.Tests.{lt-leb}
-use Rattle.game.specs.declared.Cause.{Cause}
-use Rattle.game.specs.declared.Step.{Step}
-use Rattle.game.specs.declared.Step.the-variants.{Goes, Stops}
-use Rattle.game.specs.Steps.{stepOf, stepped, answeredOf}
+use Rattle.step.specs.declared.Cause.{Cause}
+use Rattle.step.specs.declared.Step.{Step}
+use Rattle.step.specs.declared.Step.the-variants.{Goes, Stops}
+use Rattle.step.specs.Steps.{stepOf, stepped, answeredOf}
 use Rattle.game.proofs.Found.{answered-is}
 use Rattle.model.specs.Lent.{bytes, marking}
-use Rattle.game.specs.Lent.{Lent}
+use Rattle.step.specs.Lent.{Lent}
 use Rattle.game.specs.Calls.{passing, stoppedAt}
 use Rattle.replay.specs.Calls.{begunAt}
 use Rattle.replay.specs.Played.{Plays}
 use Rattle.model.proofs.Lent.{length-bytes, tidy-marking, marking-bytes}
-use Rattle.game.proofs.Bytes.{lent-bytes}
+use Rattle.step.proofs.Bytes.{lent-bytes}
 
 -- ---- one step more
 

@@ -11,7 +11,7 @@ use Rattle.refusal.specs.declared.Judged.the-variants.{Fine}
 use Rattle.records.specs.Records.{conditions}
 use Rattle.table.specs.Walk.{judgeOf, offsetOf}
 use Rattle.model.specs.Lent.{marking}
-use Rattle.game.specs.Lent.{Lent}
+use Rattle.step.specs.Lent.{Lent}
 use Rattle.game.specs.Calls.{passing}
 use Rattle.replay.specs.Calls.{begunAt}
 

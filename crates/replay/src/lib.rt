@@ -1,7 +1,7 @@
 // Runs of a table replayed over lent memory, from its own marking or from a lent one.
-use game::Cause;
-use game::Step;
 use refusal::Judged;
+use step::Cause;
+use step::Step;
 ghost use mathlib.Core.Path.{_≡_};
 ghost use mathlib.Core.List.{_++_};
 ghost use Prim.Native.Nat.{_≤_};
@@ -13,7 +13,7 @@ ghost use Rattle.table.specs.Decoded.{netOf};
 ghost use Rattle.refusal.specs.Answer.{need};
 ghost use Rattle.model.specs.Lent.{bytes, marking};
 ghost use Rattle.refusal.specs.declared.Judged.the-variants.{Fine};
-ghost use Rattle.game.specs.Steps.{stepOf, stepped};
+ghost use Rattle.step.specs.Steps.{stepOf, stepped};
 ghost use Rattle.replay.specs.Played.{Indexed, Playable, Plays};
 ghost use Rattle.game.specs.Calls.{leaves};
 ghost use Rattle.replay.specs.Calls.{replayOf, endOf, replayFromOf, endFromOf};
@@ -38,7 +38,7 @@ pub fn start(table: &[u8], n: usize, state: &mut [u8])
     ensures { λ _. ⌜ now (state .exit) ≡ bytes 256 (begin (netOf (now (table .entry)))) ⌝ }
 {
     let list = records::marking_at(table, table::offset(table, n as u16));
-    game::set_all(&table[..0], list, 1, state);
+    step::set_all(&table[..0], list, 1, state);
 }
 
 // One step of the game by the number of an event.
@@ -56,7 +56,7 @@ pub fn step_event<'a>(
     if n <= (e as usize) {
         return Step::Stops(Cause::Unknown);
     }
-    game::step_at(table, offsets[e as usize], state)
+    step::step_at(table, offsets[e as usize], state)
 }
 
 // A run of a judged table played from the marking in its bytes; fine: the number of conditions.
@@ -77,7 +77,7 @@ pub fn play<'a>(
     while k < run.len() {
         let step = step_event(table, n, offsets, run[k], state);
         let Step::Goes = step else {
-            return game::answered(step, k, 0);
+            return step::answered(step, k, 0);
         };
         k = k + 1;
     }

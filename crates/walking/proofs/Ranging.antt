@@ -15,7 +15,7 @@ use Rattle.lists.proofs.Members.{mem-in, in-mem, mem-append, count-in, count-ou
 use Rattle.refusal.specs.declared.UnfoldedCondition.{UnfoldedCondition}
 use Rattle.segments.specs.Ranges.{rangedFrom}
 use Rattle.segments.proofs.Ranged.{ranged-on, ranged-end}
-use Rattle.game.specs.Steps.{setAll}
+use Rattle.step.specs.Steps.{setAll}
 use Rattle.walking.specs.declared.Failing.{Failing}
 use Rattle.walking.specs.declared.Failing.the-variants.{Nothing, At}
 use Rattle.walking.specs.Steps.{failingOf}

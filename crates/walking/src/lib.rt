@@ -7,7 +7,7 @@ ghost use lib.ListN.{length};
 ghost use Rattle.lists.specs.Lists.{mem, failing, count};
 ghost use Rattle.model.specs.Lent.{marking};
 ghost use Rattle.segments.specs.Ranges.{ranged};
-ghost use Rattle.game.specs.Steps.{setAll};
+ghost use Rattle.step.specs.Steps.{setAll};
 ghost use Rattle.walking.specs.Steps.{passesOf, failingOf, stepOf, stops, Kept, Below, BelowIn};
 
 // What stops a step: there is no such unfolded event, or the lowest unfolded condition that is lacking or in contact.

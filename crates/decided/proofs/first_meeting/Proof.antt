@@ -5,8 +5,8 @@ use mathlib.Core.Path.{_≡_, _∙_, sym, ap}
 use lib.ListN.{length, drop}
 use Rattle.lists.specs.Lists.{failing}
 use Rattle.words.specs.Words.{words}
-use Rattle.game.specs.Steps.{failingOf}
-use Rattle.game.proofs.Lists.{failing-here, failing-on, failing-end}
+use Rattle.step.specs.Steps.{failingOf}
+use Rattle.step.proofs.Lists.{failing-here, failing-on, failing-end}
 use Rattle.decided.specs.Kept.{clearAt}
 use borrow.Author.Needs.{needs}
 use Rattle.decided.proofs.first_meeting.Statement.{statement}

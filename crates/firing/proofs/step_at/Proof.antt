@@ -12,8 +12,8 @@ use Rattle.model.specs.Numbering.{size}
 use Rattle.table.specs.Decoded.{netOf}
 use Rattle.unfolding.proofs.Numbered.{origin-low}
 use Rattle.segments.specs.Ranges.{ranged}
-use Rattle.game.specs.Steps.{setAll}
-use Rattle.game.proofs.Firing.{length-all}
+use Rattle.step.specs.Steps.{setAll}
+use Rattle.step.proofs.Firing.{length-all}
 use Rattle.firing.proofs.Fired.{step-told, step-kept, step-written, all-conditions, list-inside}
 use borrow.Author.Needs.{needs}
 use Rattle.firing.proofs.step_at.Statement.{statement}

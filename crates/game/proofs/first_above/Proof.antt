@@ -4,7 +4,7 @@ use native.Mathlib.Omega.{arith}
 use mathlib.Core.Path.{_≡_}
 use lib.ListN.{length, drop}
 use Rattle.game.specs.Lent.{firstAbove}
-use Rattle.game.proofs.Bytes.{above-here, above-on, above-end}
+use Rattle.game.proofs.Above.{above-here, above-on, above-end}
 use borrow.Author.Needs.{needs}
 use Rattle.game.proofs.first_above.Statement.{statement}
 use Rattle.game.proofs.first_above.Tie as tie

@@ -3,7 +3,7 @@ use mathlib.Core.Path.{_∙_, ap}
 use mathlib.Core.List.{[]}
 use Rattle.words.specs.Words.{words}
 use Rattle.records.specs.Records.{part}
-use Rattle.game.specs.Steps.{setAll}
+use Rattle.step.specs.Steps.{setAll}
 use Rattle.project.proofs.Walks.{fire-written}
 use borrow.Author.Needs.{needs}
 use Rattle.project.proofs.fire_at.Statement.{statement}

@@ -5,7 +5,7 @@ use mathlib.Core.List.{List, []}
 use Prim.Native.Nat.{ℕ, _+_, _-_, _≤_}
 use lib.ListN.{length, length-set}
 use Rattle.lists.specs.Lists.{count}
-use Rattle.game.specs.Steps.{setAll}
+use Rattle.step.specs.Steps.{setAll}
 use Rattle.walking.proofs.Ranging.{count-whole, set-next, set-done}
 use borrow.Author.Needs.{needs}
 use Rattle.walking.proofs.set_range.Statement.{statement}

@@ -8,7 +8,7 @@ use lib.ListN.{length, getD}
 use Rattle.lists.specs.Lists.{mem}
 use Rattle.segments.specs.Ranges.{rangedFrom, ranged}
 use Rattle.segments.proofs.Ranged.{ranged-whole, first-there, others-there}
-use Rattle.game.specs.Steps.{setAll}
+use Rattle.step.specs.Steps.{setAll}
 use Rattle.walking.proofs.Ranging.{set-on, set-end}
 use borrow.Author.Needs.{needs}
 use Rattle.walking.proofs.set_ranges.Statement.{statement}

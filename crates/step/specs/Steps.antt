@@ -11,12 +11,12 @@ use Rattle.refusal.specs.declared.Judged.the-variants.{Fine}
 use Rattle.refusal.specs.Answer.{refusedAt}
 use Rattle.words.specs.Words.{words}
 use Rattle.records.specs.Records.{conditions, flags, prePart, postPart}
-use Rattle.game.specs.declared.Cause.{Cause}
-use Rattle.game.specs.declared.Cause.the-variants.{Unknown, Lacks, Meets}
-use Rattle.game.specs.declared.Step.{Step}
-use Rattle.game.specs.declared.Step.the-variants.{Goes, Stops}
-use Rattle.game.specs.declared.Failing.{Failing}
-use Rattle.game.specs.declared.Failing.the-variants.{Nothing, At}
+use Rattle.step.specs.declared.Cause.{Cause}
+use Rattle.step.specs.declared.Cause.the-variants.{Unknown, Lacks, Meets}
+use Rattle.step.specs.declared.Step.{Step}
+use Rattle.step.specs.declared.Step.the-variants.{Goes, Stops}
+use Rattle.step.specs.declared.Failing.{Failing}
+use Rattle.step.specs.declared.Failing.the-variants.{Nothing, At}
 
 -- ---- the test of one condition, and the first that fails
 

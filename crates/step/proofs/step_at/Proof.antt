@@ -1,13 +1,13 @@
--- `game::step_at` meets its contract.
+-- `step::step_at` meets its contract.
 use mathlib.Core.Path.{_∙_, ap}
 use mathlib.Core.List.{[]}
 use Rattle.words.specs.Words.{words}
 use Rattle.records.specs.Records.{part}
-use Rattle.game.specs.Steps.{setAll}
-use Rattle.game.proofs.Firing.{step-kept, step-written}
+use Rattle.step.specs.Steps.{setAll}
+use Rattle.step.proofs.Firing.{step-kept, step-written}
 use borrow.Author.Needs.{needs}
-use Rattle.game.proofs.step_at.Statement.{statement}
-use Rattle.game.proofs.step_at.Tie as tie
+use Rattle.step.proofs.step_at.Statement.{statement}
+use Rattle.step.proofs.step_at.Tie as tie
 
 returns : tie.Need-returns
 returns c =

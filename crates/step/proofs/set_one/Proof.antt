@@ -1,8 +1,8 @@
--- `game::set_one` meets its contract.
-use Rattle.game.proofs.Lists.{set-kept, set-in, set-past}
+-- `step::set_one` meets its contract.
+use Rattle.step.proofs.Lists.{set-kept, set-in, set-past}
 use borrow.Author.Needs.{needs}
-use Rattle.game.proofs.set_one.Statement.{statement}
-use Rattle.game.proofs.set_one.Tie as tie
+use Rattle.step.proofs.set_one.Statement.{statement}
+use Rattle.step.proofs.set_one.Tie as tie
 
 returns : tie.Need-returns
 returns c =

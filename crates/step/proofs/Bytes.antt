@@ -1,16 +1,13 @@
--- Lent bytes: what 18 lets pass is a marking, and what was written as bytes is one.
+-- Bytes that are each 0 or 1 are those of a marking, and so is what was written as bytes.
 use mathlib.Core.Path.{_≡_, refl, sym, _∙_, ap, subst}
 use mathlib.Core.List.{List}
-use Prim.Native.Nat.{ℕ, suc, _+_, _≤_, _<_}
+use Prim.Native.Nat.{ℕ, _≤_, _<_}
 use lib.Dec.{eqb}
-use lib.ListN.{length, getD, drop, drop-of-length-le}
-use lib.Seq.{drop-cons}
-use native.Mathlib.Numerals.{add-one}
-use borrow.Author.Tests.{lt-ltb, le-ltb}
+use lib.ListN.{length, getD}
 use Rattle.model.specs.Net.{Marking}
 use Rattle.model.specs.Lent.{bit, bytes, marking}
 use Rattle.model.proofs.Lent.{length-bytes, bytes-at, bytes-are, bit-one, bytes-marking}
-use Rattle.game.specs.Lent.{Lent, firstAbove}
+use Rattle.step.specs.Lent.{Lent}
 
 -- bytes that are each 0 or 1 are those of a marking, and the other way round
 pub lent-of : (l : List ℕ) → ((i : ℕ) → i < length l → getD l i 0 ≤ 1) → Lent l
@@ -26,15 +23,3 @@ lent-bytes c m =
     bytes-are (bytes c m) (length (bytes c m)) (marking (bytes c m)) refl (λ i p.
     let q : i < c = subst (λ (x : ℕ). i < x) (length-bytes c m) p in
     bytes-at c m i q ∙ ap bit (sym (bit-one (m i)) ∙ ap (λ (x : ℕ). eqb x 1) (sym (bytes-at c m i q))))
-
--- ---- the first byte above 1
-
-module _ (l : List ℕ) (i : ℕ) where
-  pub above-here : i < length l → 1 < getD l i 0 → firstAbove (drop i l) ≡ 0
-  above-here h p = rw (drop-cons l i 0 h, lt-ltb 1 (getD l i 0) p)
-
-  pub above-on : i < length l → getD l i 0 ≤ 1 → firstAbove (drop i l) ≡ suc (firstAbove (drop (i + 1) l))
-  above-on h p = rw (add-one, drop-cons l i 0 h, le-ltb 1 (getD l i 0) p)
-
-  pub above-end : length l ≤ i → firstAbove (drop i l) ≡ 0
-  above-end h = rw (drop-of-length-le l h)

@@ -16,17 +16,17 @@ use Rattle.model.specs.Net.{free, lacking, contact, fire, Stop, firstStop, stop
 use Rattle.refusal.specs.declared.TableCondition.{TableCondition}
 use Rattle.words.specs.Words.{words}
 use Rattle.records.specs.Records.{flags, prePart, postPart}
-use Rattle.game.specs.declared.Step.{Step}
-use Rattle.game.specs.declared.Step.the-variants.{Goes, Stops}
-use Rattle.game.specs.declared.Cause.{Cause}
-use Rattle.game.specs.declared.Cause.the-variants.{Lacks, Meets}
-use Rattle.game.specs.declared.Failing.{Failing}
-use Rattle.game.specs.declared.Failing.the-variants.{Nothing, At}
+use Rattle.step.specs.declared.Step.{Step}
+use Rattle.step.specs.declared.Step.the-variants.{Goes, Stops}
+use Rattle.step.specs.declared.Cause.{Cause}
+use Rattle.step.specs.declared.Cause.the-variants.{Lacks, Meets}
+use Rattle.step.specs.declared.Failing.{Failing}
+use Rattle.step.specs.declared.Failing.the-variants.{Nothing, At}
 use Rattle.model.specs.Lent.{bit, bytes, marking}
-use Rattle.game.specs.Lent.{Lent}
-use Rattle.game.specs.Steps.{clearOf, failingOf, setOne, setAll, recordNet, stepOf, stepped}
+use Rattle.step.specs.Lent.{Lent}
+use Rattle.step.specs.Steps.{clearOf, failingOf, setOne, setAll, recordNet, stepOf, stepped}
 use Rattle.model.proofs.Lent.{bytes-are, bytes-at, bit-one, tidy-marking}
-use Rattle.game.proofs.Bytes.{lent-at}
+use Rattle.step.proofs.Bytes.{lent-at}
 
 -- ---- the test
 

@@ -1,4 +1,4 @@
--- `game::first_contact` meets its contract.
+-- `step::first_contact` meets its contract.
 use Prim.Native.Nat.{_-_, _≤_}
 use native.Mathlib.Omega.{arith}
 use mathlib.Core.Path.{_≡_, _∙_, sym, ap}
@@ -6,11 +6,11 @@ use lib.ListN.{length, drop}
 use Rattle.lists.specs.Lists.{failing}
 use Rattle.words.specs.Words.{words}
 use Rattle.model.specs.Lent.{marking}
-use Rattle.game.specs.Steps.{clearOf, failingOf}
-use Rattle.game.proofs.Lists.{failing-here, failing-on, failing-end}
+use Rattle.step.specs.Steps.{clearOf, failingOf}
+use Rattle.step.proofs.Lists.{failing-here, failing-on, failing-end}
 use borrow.Author.Needs.{needs}
-use Rattle.game.proofs.first_contact.Statement.{statement}
-use Rattle.game.proofs.first_contact.Tie as tie
+use Rattle.step.proofs.first_contact.Statement.{statement}
+use Rattle.step.proofs.first_contact.Tie as tie
 
 abbrev Inv-loop : tie.InvT-loop
 Inv-loop flags state taken list i₀ i =

@@ -1,9 +1,9 @@
--- `game::cause_number` meets its contract.
+-- `step::cause_number` meets its contract.
 use mathlib.Core.Path.{sym, ap}
-use Rattle.game.specs.Steps.{causeNumber}
+use Rattle.step.specs.Steps.{causeNumber}
 use borrow.Author.Needs.{needs}
-use Rattle.game.proofs.cause_number.Statement.{statement}
-use Rattle.game.proofs.cause_number.Tie as tie
+use Rattle.step.proofs.cause_number.Statement.{statement}
+use Rattle.step.proofs.cause_number.Tie as tie
 
 returns : tie.Need-returns
 returns c =

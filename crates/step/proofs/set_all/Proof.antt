@@ -1,14 +1,14 @@
--- `game::set_all` meets its contract.
+-- `step::set_all` meets its contract.
 use Prim.Native.Nat.{_+_, _-_, _≤_}
 use native.Mathlib.Omega.{arith}
 use mathlib.Core.Path.{_≡_, _∙_, sym, ap}
 use lib.ListN.{length, drop}
 use Rattle.words.specs.Words.{words}
-use Rattle.game.specs.Steps.{setAll}
-use Rattle.game.proofs.Lists.{set-on, set-end}
+use Rattle.step.specs.Steps.{setAll}
+use Rattle.step.proofs.Lists.{set-on, set-end}
 use borrow.Author.Needs.{needs}
-use Rattle.game.proofs.set_all.Statement.{statement}
-use Rattle.game.proofs.set_all.Tie as tie
+use Rattle.step.proofs.set_all.Statement.{statement}
+use Rattle.step.proofs.set_all.Tie as tie
 
 abbrev Inv-loop : tie.InvT-loop
 Inv-loop kept list value state₀ i₀ state i =

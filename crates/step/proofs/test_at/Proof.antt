@@ -1,10 +1,10 @@
--- `game::test_at` meets its contract.
+-- `step::test_at` meets its contract.
 use mathlib.Core.Path.{_∙_, ap}
 use Rattle.records.specs.Records.{part}
-use Rattle.game.proofs.Firing.{test-lacks, test-meets, test-goes}
+use Rattle.step.proofs.Firing.{test-lacks, test-meets, test-goes}
 use borrow.Author.Needs.{needs}
-use Rattle.game.proofs.test_at.Statement.{statement}
-use Rattle.game.proofs.test_at.Tie as tie
+use Rattle.step.proofs.test_at.Statement.{statement}
+use Rattle.step.proofs.test_at.Tie as tie
 
 returns : tie.Need-returns
 returns c =

@@ -1,4 +1,4 @@
--- `game::first_lacking` meets its contract.
+-- `step::first_lacking` meets its contract.
 use Prim.Native.Nat.{ℕ, _-_, _≤_}
 use native.Mathlib.Omega.{arith}
 use mathlib.Core.Path.{_≡_, _∙_, sym, ap}
@@ -8,11 +8,11 @@ use borrow.Author.Tests.{eq-eqb, ne-eqb}
 use Rattle.lists.specs.Lists.{failing}
 use Rattle.words.specs.Words.{words}
 use Rattle.model.specs.Lent.{marking}
-use Rattle.game.specs.Steps.{failingOf}
-use Rattle.game.proofs.Lists.{failing-here, failing-on, failing-end}
+use Rattle.step.specs.Steps.{failingOf}
+use Rattle.step.proofs.Lists.{failing-here, failing-on, failing-end}
 use borrow.Author.Needs.{needs}
-use Rattle.game.proofs.first_lacking.Statement.{statement}
-use Rattle.game.proofs.first_lacking.Tie as tie
+use Rattle.step.proofs.first_lacking.Statement.{statement}
+use Rattle.step.proofs.first_lacking.Tie as tie
 
 abbrev Inv-loop : tie.InvT-loop
 Inv-loop state list i₀ i =

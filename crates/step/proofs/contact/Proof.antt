@@ -1,14 +1,14 @@
--- `game::contact` meets its contract.
+-- `step::contact` meets its contract.
 use Prim.Native.Nat.{ℕ}
 use mathlib.Core.Path.{_∙_, ap}
 use mathlib.Core.Bool.{Bool}
 use Rattle.lists.specs.Lists.{failing}
 use Rattle.words.specs.Words.{words}
-use Rattle.game.specs.Steps.{failingOf}
-use Rattle.game.proofs.Firing.{marked-clear, none-meets}
+use Rattle.step.specs.Steps.{failingOf}
+use Rattle.step.proofs.Firing.{marked-clear, none-meets}
 use borrow.Author.Needs.{needs}
-use Rattle.game.proofs.contact.Statement.{statement}
-use Rattle.game.proofs.contact.Tie as tie
+use Rattle.step.proofs.contact.Statement.{statement}
+use Rattle.step.proofs.contact.Tie as tie
 
 returns : tie.Need-returns
 returns c =

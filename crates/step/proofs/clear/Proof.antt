@@ -1,9 +1,9 @@
--- `game::clear` meets its contract.
+-- `step::clear` meets its contract.
 use Rattle.model.specs.Lent.{marking}
 use borrow.Author.Tests.{eq-eqb, ne-eqb}
 use borrow.Author.Needs.{needs}
-use Rattle.game.proofs.clear.Statement.{statement}
-use Rattle.game.proofs.clear.Tie as tie
+use Rattle.step.proofs.clear.Statement.{statement}
+use Rattle.step.proofs.clear.Tie as tie
 
 returns : tie.Need-returns
 unfolding marking

@@ -1,8 +1,8 @@
--- `game::answered` meets its contract.
+-- `step::answered` meets its contract.
 use mathlib.Core.Path.{_∙_}
 use borrow.Author.Needs.{needs}
-use Rattle.game.proofs.answered.Statement.{statement}
-use Rattle.game.proofs.answered.Tie as tie
+use Rattle.step.proofs.answered.Statement.{statement}
+use Rattle.step.proofs.answered.Tie as tie
 
 returns : tie.Need-returns
 returns c =

@@ -1,4 +1,4 @@
--- A list of conditions walked two bytes at a time: membership, the first that fails a test, and bytes set in turn.
+-- A list of conditions walked two bytes at a time: the first that fails a test, and bytes set in turn.
 use Prim.Native.Nat.{ℕ, _+_, _-_, _≤_, _<_}
 use mathlib.Core.Path.{_≡_, sym, _∙_}
 use mathlib.Core.Bool.{Bool, true, false}
@@ -10,7 +10,7 @@ use borrow.Author.Tests.{eq-eqb, ne-eqb}
 use Rattle.lists.specs.Lists.{failing}
 use Rattle.words.specs.Words.{wordAt, words}
 use Rattle.words.proofs.Laws.{words-next, words-end}
-use Rattle.game.specs.Steps.{setOne, setAll}
+use Rattle.step.specs.Steps.{setOne, setAll}
 
 -- a condition b that stands at i
 module _ (s : List ℕ) (i b : ℕ) (h : 1 < length s - i) (e : b ≡ wordAt s i) where

@@ -1,0 +1,4 @@
+-- The laws, from bytes up to one step.
+pub mod Bytes
+pub mod Lists
+pub mod Firing
