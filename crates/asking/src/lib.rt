@@ -58,6 +58,6 @@ pub fn start(table: &[u8], out: &mut [u8]) -> Judged
         return r;
     };
     let mut state = [0u8; 256];
-    replay::start(table, n, &mut state);
-    replay::write_end(&state, words::word(table, 0) as usize, out)
+    played::start(table, n, &mut state);
+    played::write_end(&state, words::word(table, 0) as usize, out)
 }

@@ -29,7 +29,7 @@ fn write_marking<'a>(
         return refusal::refused(16, count);
     }
     let mut begun = [0u8; 256];
-    replay::start(table, events, &mut begun);
+    played::start(table, events, &mut begun);
     copies::write_copies(table, events, users, bases, &begun, state, seen, out);
     Judged::Fine(count)
 }

@@ -32,11 +32,11 @@ use Rattle.exchange.specs.declared.Test.the-variants.{Shared, Held, Once
 use Rattle.model.specs.Lent.{marking}
 use Rattle.exchange.specs.Tests.{passesOf}
 use Rattle.game.specs.Calls.{passing}
-use Rattle.replay.specs.Calls.{begunAt}
+use Rattle.played.specs.Begun.{begunAt}
 use Rattle.exchange.specs.Calls.{swapping, exchangeOf, exchangedOf}
 use Rattle.exchange.specs.Played.{Found, Exchangeable}
-use Rattle.replay.specs.Played.{Plays}
-use Rattle.replay.proofs.Ends.{left-refused, passing-refused, passing-fine}
+use Rattle.played.specs.Played.{Plays}
+use Rattle.played.proofs.Passing.{left-refused, passing-refused, passing-fine}
 
 -- ---- every condition of a list passes: a condition b that stands at i, and no condition left
 

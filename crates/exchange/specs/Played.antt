@@ -10,7 +10,7 @@ use Rattle.model.specs.Across.{mostSteps}
 use Rattle.refusal.specs.declared.Judged.the-variants.{Fine}
 use Rattle.table.specs.Walk.{judgeOf, offsetOf}
 use Rattle.table.specs.Decoded.{netOf}
-use Rattle.replay.specs.Played.{Indexed}
+use Rattle.played.specs.Played.{Indexed}
 
 -- The record of an event of a judged table stands at an offset.
 pub record Found (s : List ℕ) (e at : ℕ) : Type 0 where

@@ -133,8 +133,8 @@ fn apart_steps<'a>(
     ensures { λ r. ⌜ r ≡ apartStep (netOf (now (table .entry))) (begin (netOf (now (table .entry)))) (now (run .entry)) k ⌝ }
 {
     let mut before = [0u8; 256];
-    replay::start(table, n, &mut before);
-    let _ = replay::play(table, n, offsets, &run[0..k], &mut before);
+    played::start(table, n, &mut before);
+    let _ = played::play(table, n, offsets, &run[0..k], &mut before);
     let e = run[k];
     let f = run[k + 1];
     apart_at(
@@ -178,10 +178,10 @@ pub fn exchange(table: &[u8], run: &mut [u16], k: usize) -> Judged
         return judged;
     };
     let mut offsets = [0usize; 256];
-    replay::fill(table, n, &mut offsets);
+    played::fill(table, n, &mut offsets);
     let mut state = [0u8; 256];
-    replay::start(table, n, &mut state);
-    let played = replay::play(table, n, &offsets, &run[..], &mut state);
+    played::start(table, n, &mut state);
+    let played = played::play(table, n, &offsets, &run[..], &mut state);
     let Judged::Fine(_) = played else {
         return played;
     };

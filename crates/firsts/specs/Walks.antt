@@ -10,7 +10,7 @@ use Rattle.model.specs.Across.{earliest, repeated}
 use Rattle.refusal.specs.declared.Judged.the-variants.{Fine}
 use Rattle.table.specs.Walk.{judgeOf}
 use Rattle.table.specs.Decoded.{netOf}
-use Rattle.replay.specs.Played.{Indexed}
+use Rattle.played.specs.Played.{Indexed}
 use Rattle.firsts.specs.declared.Slot.{Slot}
 use Rattle.firsts.specs.declared.Walked.{Walked}
 use Rattle.firsts.specs.Firsts.{firstAt, repeatOf}

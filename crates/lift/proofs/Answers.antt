@@ -29,9 +29,9 @@ use Rattle.table.specs.Tabled.{Tabled}
 use Rattle.table.proofs.Sound.{tabled}
 use Rattle.layout.proofs.Limits.{events-are-all}
 use Rattle.game.specs.Calls.{passing}
-use Rattle.replay.specs.Calls.{begunAt}
-use Rattle.replay.specs.Played.{Plays}
-use Rattle.replay.proofs.Ends.{passing-refused}
+use Rattle.played.specs.Begun.{begunAt}
+use Rattle.played.specs.Played.{Plays}
+use Rattle.played.proofs.Passing.{passing-refused}
 use Rattle.across.specs.Calls.{fitted, numbersOf, acrossOf}
 use Rattle.across.specs.Prepared.{preparedOf}
 use Rattle.across.proofs.Prefix.{across-passed, across-on, across-judged, fitted-link, fitted-across}

@@ -5,7 +5,7 @@ use mathlib.Core.Path.{_≡_, refl, sym, ap, _∙_, subst}
 use mathlib.Core.List.{List, [], _∷_, map, _++_}
 use lib.ListN.{length, getD, take, drop, set, length-map}
 use lib.Seq.{take-length}
-use Rattle.replay.proofs.Ends.{Copied, copy-on, copy-end}
+use Rattle.played.proofs.Copying.{Copied, copy-on, copy-end}
 
 map-at : (f : ℕ → ℕ) (r : List ℕ) (k : ℕ) → k < length r → getD (map f r) k 0 ≡ f (getD r k 0)
 map-at f [] k h = absurd (omega arith)

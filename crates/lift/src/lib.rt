@@ -75,10 +75,10 @@ pub fn lift<'a>(table: &'a [u8], run: &'a [u16], out: &mut [u16]) -> Judged
         return laid;
     };
     let mut offsets = [0usize; 256];
-    replay::fill(table, events, &mut offsets);
+    played::fill(table, events, &mut offsets);
     let mut state = [0u8; 256];
-    replay::start(table, events, &mut state);
-    let played = replay::play(table, events, &offsets, run, &mut state);
+    played::start(table, events, &mut state);
+    let played = played::play(table, events, &offsets, run, &mut state);
     let Judged::Fine(_) = played else {
         return played;
     };

@@ -26,7 +26,7 @@ use Rattle.table.proofs.Sound.{tabled}
 use Rattle.step.specs.Lent.{Lent}
 use Rattle.step.proofs.Bytes.{lent-bytes}
 use Rattle.game.proofs.Marked.{conditions-are}
-use Rattle.replay.specs.Played.{Indexed}
+use Rattle.played.specs.Played.{Indexed}
 use Rattle.runs.specs.Runs.{runKind, runOf, readAnswer}
 use Rattle.runs.proofs.Judging.{length-run}
 use Rattle.runs.proofs.Answers.{read-fine}

@@ -5,7 +5,7 @@ use Prim.Native.Nat.{ℕ, _≤_, _<_}
 use lib.ListN.{length, drop}
 use Rattle.model.specs.Across.{mostSteps, mostUnfolded}
 use Rattle.records.specs.Records.{conditions}
-use Rattle.replay.specs.Played.{Playable}
+use Rattle.played.specs.Played.{Playable}
 use Rattle.lines.specs.declared.Place.{Place}
 use Rattle.lines.specs.declared.Place.the-variants.{Step}
 

@@ -14,7 +14,7 @@ use Rattle.refusal.specs.Answer.{andThen}
 use Rattle.table.specs.Walk.{judgeOf}
 use Rattle.table.specs.Decoded.{netOf}
 use Rattle.runs.specs.Runs.{runOf}
-use Rattle.replay.specs.Played.{Indexed}
+use Rattle.played.specs.Played.{Indexed}
 use Rattle.across.specs.Calls.{numbersOf}
 use Rattle.lift.specs.Calls.{liftOf}
 use Rattle.ends.specs.Calls.{unfoldedReplayOf}

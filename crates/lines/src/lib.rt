@@ -130,7 +130,7 @@ fn write_step<'a>(
 {
     let event = number_at(steps, k);
     let unfolded = number_at(lifted, k);
-    replay::step_event(table, events, offsets, event, marking);
+    played::step_event(table, events, offsets, event, marking);
     put(
         Piece::Step(k, event as usize, unfolded as usize),
         &marking[..],
@@ -226,8 +226,8 @@ fn set_up(table: &[u8], offsets: &mut [usize], marking: &mut [u8]) -> Judged
     let Judged::Fine(events) = judged else {
         return judged;
     };
-    replay::fill(table, events, offsets);
-    replay::start(table, events, marking);
+    played::fill(table, events, offsets);
+    played::start(table, events, marking);
     Judged::Fine(events)
 }
 

@@ -38,7 +38,7 @@ use Rattle.step.specs.declared.Step.the-variants.{Goes, Stops}
 use Rattle.step.specs.Lent.{Lent}
 use Rattle.step.specs.Steps.{recordNet, causeOf, causeNumber, stepOf}
 use Rattle.game.proofs.Found.{stopping-found, fire-found}
-use Rattle.replay.proofs.Playing.{fired-marking}
+use Rattle.played.proofs.Playing.{fired-marking}
 use Rattle.step.proofs.Bytes.{lent-bytes, lent-at}
 use Rattle.across.specs.Prepared.{Around, Between}
 use Rattle.decided.specs.Decided.{stoppedBy, numberOfStop}

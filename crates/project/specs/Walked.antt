@@ -21,7 +21,7 @@ use Rattle.step.specs.declared.Step.the-variants.{Goes, Stops}
 use Rattle.step.specs.Lent.{Lent}
 use Rattle.step.specs.Steps.{recordNet, causeNumber}
 use Rattle.game.specs.Calls.{passing}
-use Rattle.replay.specs.Played.{Indexed}
+use Rattle.played.specs.Played.{Indexed}
 use Rattle.across.specs.Prepared.{Between}
 use Rattle.decided.specs.Decided.{numberOfStop}
 use Rattle.decided.specs.Kept.{Kept}

@@ -140,10 +140,10 @@ pub fn replay_lifted<'a>(
     ensures { λ r. ⌜ Replayed (netOf (now (table .entry))) (now (lifted .entry)) r (now (state .exit)) (now (seen .exit)) ⌝ }
 {
     let mut offsets = [0usize; 256];
-    replay::fill(table, events, &mut offsets);
+    played::fill(table, events, &mut offsets);
     let mut begun = [0u8; 256];
-    replay::start(table, events, &mut begun);
-    replay::start(table, events, state);
+    played::start(table, events, &mut begun);
+    played::start(table, events, state);
     let mut places = [0u32; 256];
     let mut kept = [0u32; 256];
     play(

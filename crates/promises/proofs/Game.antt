@@ -25,7 +25,8 @@ use Rattle.table.specs.Walk.{judgeOf}
 use Rattle.table.specs.Decoded.{netOf}
 use Rattle.model.specs.Lent.{bytes, marking}
 use Rattle.game.specs.Calls.{passing, onMarking, leaves, stoppedAt, firingOf, fireOf, firedOf}
-use Rattle.replay.specs.Calls.{begunAt, playedOf, endOver, replayOf, endOf, replayFromOf, endFromOf}
+use Rattle.played.specs.Begun.{begunAt}
+use Rattle.replay.specs.Calls.{playedOf, endOver, replayOf, endOf, replayFromOf, endFromOf}
 use Rattle.exchange.specs.Calls.{swapping, exchangeOf, exchangedOf}
 use Rattle.game.proofs.Marked.{conditions-are, on-fine}
 use Rattle.promises.specs.Game.{Replayed, OneStep}

@@ -20,7 +20,7 @@ use Rattle.step.specs.declared.Step.{Step}
 use Rattle.step.specs.declared.Step.the-variants.{Goes, Stops}
 use Rattle.step.specs.Steps.{recordNet, stepOf, stepped, answeredOf}
 use Rattle.game.specs.Calls.{leaves, onMarking}
-use Rattle.replay.specs.Calls.{begunAt}
+use Rattle.played.specs.Begun.{begunAt}
 use Rattle.across.specs.Prepared.{preparedOf}
 use Rattle.promises.specs.Refused.{ofTable, ofLent, ofStep, ofSteps, ofUnfolding, listed, Refusing}
 use Rattle.promises.proofs.Refused.{listed-need, listed-passing, conditions-listed, event-listed, marking-listed, judged-listed, lent-listed, stuck-listed, long-listed, unfolding-listed, unfolding-of-listed}
@@ -30,9 +30,9 @@ use Rattle.rules.proofs.marking_record.Reads as marking-record
 use Rattle.game.proofs.judge_lent.Reads as judge-lent
 use Rattle.step.proofs.answered.Reads as answered
 use Rattle.step.proofs.step_at.Reads as step-at
-use Rattle.replay.proofs.step_event.Reads as step-event
-use Rattle.replay.proofs.play.Reads as play
-use Rattle.replay.proofs.write_end.Reads as write-end
+use Rattle.played.proofs.step_event.Reads as step-event
+use Rattle.played.proofs.play.Reads as play
+use Rattle.played.proofs.write_end.Reads as write-end
 use Rattle.layout.proofs.lay_out.Reads as lay-out
 use Rattle.across.proofs.lay_out_run.Reads as lay-out-run
 use Rattle.project.proofs.replay_lifted.Reads as replay-lifted

@@ -44,10 +44,10 @@ use Rattle.step.proofs.test_at.Reads as test-at
 use Rattle.step.proofs.step_at.Reads as step-at
 use Rattle.step.proofs.answered.Reads as answered
 use Rattle.game.proofs.judge_lent.Reads as judge-lent
-use Rattle.replay.proofs.start.Reads as played-start
-use Rattle.replay.proofs.step_event.Reads as step-event
-use Rattle.replay.proofs.copy_front.Reads as copy-front
-use Rattle.replay.proofs.write_end.Reads as write-end
+use Rattle.played.proofs.start.Reads as played-start
+use Rattle.played.proofs.step_event.Reads as step-event
+use Rattle.played.proofs.copy_front.Reads as copy-front
+use Rattle.played.proofs.write_end.Reads as write-end
 use Rattle.tally.proofs.number.Reads as count-at
 use Rattle.tally.proofs.raise.Reads as raised
 use Rattle.tally.proofs.tally.Reads as tallied

@@ -29,7 +29,8 @@ use Rattle.table.specs.Walk.{kindIs, lastOf, eventsFrom, judgeOf, offsetOf}
 use Rattle.table.specs.Decoded.{netOf}
 use Rattle.game.specs.Lent.{lent, firstAbove}
 use Rattle.game.specs.Calls.{passing, onMarking, stoppedAt, firingOf}
-use Rattle.replay.specs.Calls.{playedOf, replayOf, replayFromOf, begunAt}
+use Rattle.replay.specs.Calls.{playedOf, replayOf, replayFromOf}
+use Rattle.played.specs.Begun.{begunAt}
 use Rattle.exchange.specs.Calls.{swapping, exchangeOf}
 use Rattle.runs.specs.Runs.{runKind, stepsIn, readAnswer, writeAnswer}
 use Rattle.layout.specs.Unfolds.{refusedOr, unfoldingOf}

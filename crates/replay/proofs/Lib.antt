@@ -1,4 +1,2 @@
--- The laws, from one step more up to the calls.
-pub mod Playing
-pub mod Index
+pub mod Starting
 pub mod Ends

@@ -1,11 +1,10 @@
 -- What each call that replays a run answers and what it leaves in its lent output, as functions of what it was given.
-use mathlib.Core.Bool.{false}
 use mathlib.Core.List.{List, _++_}
 use Prim.Native.Nat.{ℕ}
 use lib.Dec.{leb}
 use lib.ListN.{length, drop}
 use Rattle.model.specs.Net.{Net, Marking, begin}
-use Rattle.model.specs.Runs.{end, atStart, State, marker, opening, replay}
+use Rattle.model.specs.Runs.{end, State, opening, replay}
 use Rattle.model.specs.Across.{stuck, tooLong}
 use Rattle.refusal.specs.declared.Judged.{Judged}
 use Rattle.refusal.specs.declared.Judged.the-variants.{Fine}
@@ -14,11 +13,7 @@ use Rattle.table.specs.Walk.{judgeOf}
 use Rattle.table.specs.Decoded.{netOf}
 use Rattle.model.specs.Lent.{bytes, marking}
 use Rattle.game.specs.Calls.{passing, onMarking, leaves}
-
--- The state before the first step of a run begun at a marking: what holds is marked by the start, and no event has occurred (01,
--- Runs across).
-unfoldable pub begunAt : Net → Marking → State
-begunAt n m = record { marking = m; first = λ b. marker (n .persistent b) (m b) atStart; seen = λ e. false }
+use Rattle.played.specs.Begun.{begunAt}
 
 -- A run from a state, with room for so many bytes: 3, then its steps, then 16; fine: the number of conditions (01, Refusal numbers).
 unfoldable pub playedOf : Net → State → List ℕ → ℕ → Judged

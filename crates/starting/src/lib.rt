@@ -26,7 +26,7 @@ fn write_start<'a>(
     ensures { λ _. ⌜ now (out .exit) ≡ bytes (basic (netOf (now (table .entry))) .conditions) (begin (basic (netOf (now (table .entry))))) ++ drop (basic (netOf (now (table .entry))) .conditions) (now (out .entry)) ⌝ }
 {
     let mut state = [0u8; 256];
-    replay::start(table, events, &mut state);
+    played::start(table, events, &mut state);
     let seen = [0u8; 256];
     copies::write_copies(table, events, users, bases, &state, &state, &seen, out);
 }

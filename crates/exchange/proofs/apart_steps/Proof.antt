@@ -3,7 +3,7 @@ use native.Mathlib.Omega.{arith}
 use mathlib.Core.Path.{_∙_, refl}
 use Prim.Native.Nat.{_+_, _-_}
 use Rattle.table.proofs.Walk.{accepted}
-use Rattle.replay.proofs.Ends.{begun-lent, begun-room, begun-plays}
+use Rattle.played.proofs.Begun.{begun-lent, begun-room, begun-plays}
 use Rattle.exchange.proofs.Exchanging.{step-below, step-found, apart-asked}
 use borrow.Author.Needs.{needs}
 use Rattle.exchange.proofs.apart_steps.Statement.{statement}

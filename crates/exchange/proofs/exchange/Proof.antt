@@ -7,7 +7,7 @@ use borrow.Author.Tests.{ltb-true}
 use Rattle.refusal.proofs.Chain.{passed-up}
 use Rattle.table.proofs.Walk.{accepted}
 use Rattle.exchange.specs.Calls.{exchangeOf}
-use Rattle.replay.proofs.Ends.{begun-lent, begun-room, begun-plays}
+use Rattle.played.proofs.Begun.{begun-lent, begun-room, begun-plays}
 use Rattle.exchange.proofs.Exchanging.{kept-run, stopped-run, whole-run, no-step, not-apart, exchanges, put-back, part-room}
 use borrow.Author.Needs.{needs}
 use Rattle.exchange.proofs.exchange.Statement.{statement}

@@ -3,7 +3,7 @@ use mathlib.Core.Path.{refl}
 use lib.ListN.{length}
 use Rattle.refusal.specs.declared.Judged.the-variants.{Fine}
 use Rattle.table.specs.Decoded.{netOf}
-use Rattle.replay.proofs.Ends.{begun-lent, begun-room, begun-plays}
+use Rattle.played.proofs.Begun.{begun-lent, begun-room, begun-plays}
 use Rattle.unfolding.proofs.Owners.{within-laid}
 use Rattle.across.specs.Calls.{fitted}
 use Rattle.lift.proofs.Answers.{liftingOf, lift-refused, lift-went, lift-stopped, lift-runs, laid-open, laid-events, laid-judged, laid-few, laid-refused}

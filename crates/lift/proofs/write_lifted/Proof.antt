@@ -4,7 +4,7 @@ use native.Mathlib.Omega.{arith}
 use Prim.Native.Nat.{_-_}
 use mathlib.Core.List.{map}
 use lib.ListN.{length, getD}
-use Rattle.replay.proofs.Ends.{Copied}
+use Rattle.played.proofs.Copying.{Copied}
 use Rattle.lift.proofs.Written.{write-on, write-end}
 use Rattle.lift.proofs.write_lifted.Statement.{statement}
 use Rattle.lift.proofs.write_lifted.Tie as tie

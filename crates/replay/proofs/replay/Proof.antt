@@ -4,7 +4,8 @@ use mathlib.Core.Path.{_∙_, sym, refl}
 use Rattle.refusal.proofs.Chain.{passed-up}
 use Rattle.table.proofs.Walk.{accepted}
 use Rattle.replay.specs.Calls.{replayOf, endOf}
-use Rattle.replay.proofs.Ends.{call-refused, call-fine, tail-room, replay-judged, begun-lent, begun-room, begun-plays}
+use Rattle.replay.proofs.Ends.{call-refused, call-fine, tail-room, replay-judged}
+use Rattle.played.proofs.Begun.{begun-lent, begun-room, begun-plays}
 use borrow.Author.Needs.{needs}
 use Rattle.replay.proofs.replay.Statement.{statement}
 use Rattle.replay.proofs.replay.Tie as tie

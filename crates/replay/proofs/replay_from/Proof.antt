@@ -3,7 +3,9 @@ use native.Mathlib.Omega.{arith}
 use mathlib.Core.Path.{_∙_, sym}
 use Rattle.table.proofs.Walk.{accepted}
 use Rattle.replay.specs.Calls.{endFromOf}
-use Rattle.replay.proofs.Ends.{call-refused, call-fine, tail-room, replay-from-judged, replay-from-refused, left-refused, lent-judged, lent-few, lent-lent, lent-room, lent-plays}
+use Rattle.replay.proofs.Starting.{lent-judged, lent-few, lent-lent, lent-room, lent-plays}
+use Rattle.replay.proofs.Ends.{call-refused, call-fine, tail-room, replay-from-judged, replay-from-refused}
+use Rattle.played.proofs.Passing.{left-refused}
 use borrow.Author.Needs.{needs}
 use Rattle.replay.proofs.replay_from.Statement.{statement}
 use Rattle.replay.proofs.replay_from.Tie as tie

@@ -1,10 +1,10 @@
--- `replay::step_event` meets its contract.
+-- `played::step_event` meets its contract.
 use native.Mathlib.Omega.{arith}
 use mathlib.Core.Path.{_∙_}
 use Rattle.game.proofs.Found.{number-unknown, number-told, number-left}
 use borrow.Author.Needs.{needs}
-use Rattle.replay.proofs.step_event.Statement.{statement}
-use Rattle.replay.proofs.step_event.Tie as tie
+use Rattle.played.proofs.step_event.Statement.{statement}
+use Rattle.played.proofs.step_event.Tie as tie
 
 returns : tie.Need-returns
 returns c =

@@ -13,7 +13,7 @@ use Rattle.table.specs.Walk.{judgeOf, offsetOf}
 use Rattle.model.specs.Lent.{marking}
 use Rattle.step.specs.Lent.{Lent}
 use Rattle.game.specs.Calls.{passing}
-use Rattle.replay.specs.Calls.{begunAt}
+use Rattle.played.specs.Begun.{begunAt}
 
 -- The first n numbers of a list are the offsets of the n events of a table.
 pub record Indexed (s : List ℕ) (n : ℕ) (l : List ℕ) : Type 0 where

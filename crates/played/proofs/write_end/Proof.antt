@@ -1,10 +1,10 @@
--- `replay::write_end` meets its contract.
+-- `played::write_end` meets its contract.
 use mathlib.Core.Path.{_∙_, sym}
 use borrow.Author.Tests.{lt-leb, le-leb}
 use Rattle.refusal.proofs.Chain.{need-passes, need-refuses}
 use borrow.Author.Needs.{needs}
-use Rattle.replay.proofs.write_end.Statement.{statement}
-use Rattle.replay.proofs.write_end.Tie as tie
+use Rattle.played.proofs.write_end.Statement.{statement}
+use Rattle.played.proofs.write_end.Tie as tie
 
 returns : tie.Need-returns
 returns c =

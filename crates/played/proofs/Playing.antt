@@ -31,8 +31,8 @@ use Rattle.game.proofs.Found.{answered-is}
 use Rattle.model.specs.Lent.{bytes, marking}
 use Rattle.step.specs.Lent.{Lent}
 use Rattle.game.specs.Calls.{passing, stoppedAt}
-use Rattle.replay.specs.Calls.{begunAt}
-use Rattle.replay.specs.Played.{Plays}
+use Rattle.played.specs.Begun.{begunAt}
+use Rattle.played.specs.Played.{Plays}
 use Rattle.model.proofs.Lent.{length-bytes, tidy-marking, marking-bytes}
 use Rattle.step.proofs.Bytes.{lent-bytes}
 

@@ -21,7 +21,7 @@ use Rattle.table.proofs.Walk.{accepted}
 use Rattle.table.proofs.Decoded.{start-read}
 use Rattle.model.specs.Lent.{bytes}
 use Rattle.step.specs.Steps.{setAll}
-use Rattle.replay.specs.Played.{Indexed}
+use Rattle.played.specs.Played.{Indexed}
 use Rattle.step.proofs.Firing.{put-all}
 
 -- ---- the index

@@ -1,4 +1,4 @@
--- `replay::play` meets its contract.
+-- `played::play` meets its contract.
 use Prim.Native.Nat.{_-_}
 use native.Mathlib.Omega.{arith}
 use mathlib.Core.Path.{_∙_, sym}
@@ -7,10 +7,10 @@ use Rattle.table.specs.Decoded.{netOf}
 use Rattle.table.proofs.Sound.{accepted-sound}
 use Rattle.model.specs.Lent.{marking}
 use Rattle.game.proofs.Marked.{conditions-are}
-use Rattle.replay.proofs.Playing.{Going, going-start, step-on, step-ends, too-long, comes-to-end}
+use Rattle.played.proofs.Playing.{Going, going-start, step-on, step-ends, too-long, comes-to-end}
 use borrow.Author.Needs.{needs}
-use Rattle.replay.proofs.play.Statement.{statement}
-use Rattle.replay.proofs.play.Tie as tie
+use Rattle.played.proofs.play.Statement.{statement}
+use Rattle.played.proofs.play.Tie as tie
 
 abbrev Inv-loop : tie.InvT-loop
 Inv-loop table n offsets run state₀ k₀ state k =

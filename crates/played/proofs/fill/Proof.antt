@@ -1,11 +1,11 @@
--- `replay::fill` meets its contract.
+-- `played::fill` meets its contract.
 use Prim.Native.Nat.{_-_}
 use native.Mathlib.Omega.{arith}
 use lib.ListN.{length}
-use Rattle.replay.proofs.Index.{Filling, filling-start, filling-inside, filling-on, filling-end}
+use Rattle.played.proofs.Index.{Filling, filling-start, filling-inside, filling-on, filling-end}
 use borrow.Author.Needs.{needs}
-use Rattle.replay.proofs.fill.Statement.{statement}
-use Rattle.replay.proofs.fill.Tie as tie
+use Rattle.played.proofs.fill.Statement.{statement}
+use Rattle.played.proofs.fill.Tie as tie
 
 abbrev Inv-loop : tie.InvT-loop
 Inv-loop table n offsets₀ at₀ i₀ offsets at i =

@@ -1,9 +1,9 @@
--- `replay::copy_front` meets its contract.
+-- `played::copy_front` meets its contract.
 use Prim.Native.Nat.{_-_}
-use Rattle.replay.proofs.Ends.{Copied, copy-on, copy-end}
+use Rattle.played.proofs.Copying.{Copied, copy-on, copy-end}
 use borrow.Author.Needs.{needs}
-use Rattle.replay.proofs.copy_front.Statement.{statement}
-use Rattle.replay.proofs.copy_front.Tie as tie
+use Rattle.played.proofs.copy_front.Statement.{statement}
+use Rattle.played.proofs.copy_front.Tie as tie
 
 abbrev Inv-loop : tie.InvT-loop
 Inv-loop from count out₀ i₀ out i =

@@ -1,11 +1,11 @@
--- `replay::start` meets its contract.
+-- `played::start` meets its contract.
 use native.Mathlib.Omega.{arith}
 use mathlib.Core.Path.{_∙_}
 use Rattle.table.proofs.Walk.{accepted}
-use Rattle.replay.proofs.Index.{start-put}
+use Rattle.played.proofs.Index.{start-put}
 use borrow.Author.Needs.{needs}
-use Rattle.replay.proofs.start.Statement.{statement}
-use Rattle.replay.proofs.start.Tie as tie
+use Rattle.played.proofs.start.Statement.{statement}
+use Rattle.played.proofs.start.Tie as tie
 
 cast-offset : tie.Need-cast-offset
 cast-offset c =

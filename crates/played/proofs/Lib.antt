@@ -1,0 +1,6 @@
+-- The laws, from the index up to a run and its end.
+pub mod Index
+pub mod Playing
+pub mod Begun
+pub mod Copying
+pub mod Passing
