@@ -1,19 +1,18 @@
--- The exchange on bytes is the model's: its premises, the marking before step k, the part that is swapped, and the chain of refusals.
-use Prim.Native.Nat.{ℕ, zero, suc, _+_, _-_, _≤_, _<_}
+-- The exchange on bytes is the model's: the marking before step k, the part that is swapped, and the chain of refusals.
+use Prim.Native.Nat.{ℕ, zero, suc, _-_, _≤_, _<_}
 use native.Mathlib.Omega.{arith}
 use mathlib.Core.Path.{_≡_, refl, sym, ap, _∙_, subst}
-use mathlib.Core.Bool.{Bool, true, false, _&&_}
+use mathlib.Core.Bool.{true, false}
 use mathlib.Core.Option.{Option, none, some}
 use mathlib.Core.List.{List, [], _∷_, _++_, append-nil}
 use lib.Dec.{T, ltb, ltb→lt, lt→ltb}
 use lib.ListN.{length, getD, take, drop, set, length-drop, drop-of-length-le}
 use lib.Seq.{take-all, length-take-le}
-use borrow.Author.Tests.{eq-eqb, ne-eqb, le-ltb}
+use borrow.Author.Tests.{le-ltb}
 use Rattle.lists.proofs.Bools.{iff}
-use Rattle.lists.specs.Lists.{all}
 use Rattle.model.specs.Net.{Net, Marking, begin, fire}
 use Rattle.model.specs.Runs.{runs, end, opening, replay}
-use Rattle.model.specs.Exchange.{touch, apart, apartStep, exchanged}
+use Rattle.model.specs.Exchange.{apart, apartStep, exchanged}
 use Rattle.model.specs.Across.{Refusal, Answer, run, unless, stuck, mostSteps, tooLong, noStep, notApart, exchanging, exchange}
 use Rattle.model.proofs.Firing.{runs-first, runs-rest, runs-cons, can-event}
 use Rattle.model.proofs.Answers.{not-stuck, stuck-none, short-length, length-short}
@@ -22,70 +21,17 @@ use Rattle.refusal.specs.declared.Judged.{Judged}
 use Rattle.refusal.specs.declared.Judged.the-variants.{Fine, Refused}
 use Rattle.refusal.specs.Answer.{refusedAt}
 use Rattle.refusal.proofs.Chain.{never-both}
-use Rattle.words.specs.Words.{wordAt, words}
-use Rattle.words.proofs.Laws.{words-next, words-end}
-use Rattle.records.specs.Records.{flags, prePart, postPart}
 use Rattle.table.specs.Walk.{judgeOf}
 use Rattle.table.specs.Decoded.{netOf}
 use Rattle.table.proofs.Decoded.{net-judged}
-use Rattle.exchange.specs.declared.Test.the-variants.{Shared, Held, Once}
 use Rattle.model.specs.Lent.{marking}
-use Rattle.exchange.specs.Tests.{passesOf}
 use Rattle.game.specs.Calls.{passing}
 use Rattle.played.specs.Begun.{begunAt}
 use Rattle.exchange.specs.Calls.{swapping, exchangeOf, exchangedOf}
-use Rattle.exchange.specs.Played.{Found, Exchangeable}
+use Rattle.apart.specs.Found.{Found}
+use Rattle.exchange.specs.Played.{Exchangeable}
 use Rattle.played.specs.Played.{Plays}
 use Rattle.played.proofs.Passing.{left-refused, passing-refused, passing-fine}
-
--- ---- every condition of a list passes: a condition b that stands at i, and no condition left
-
-module _ (f : ℕ → Bool) (s : List ℕ) (i b : ℕ) (h : 1 < length s - i) (e : b ≡ wordAt s i) where
-  pub one-fails : f b ≡ false → all f (words (drop i s)) ≡ false
-  one-fails p = rw (words-next s i h, ← e, p)
-
-  pub one-passes : f b ≡ true → all f (words (drop i s)) ≡ all f (words (drop (i + 2) s))
-  one-passes p = rw (words-next s i h, ← e, p)
-
-pub none-left : (f : ℕ → Bool) (s : List ℕ) (i : ℕ) → length s - i ≤ 1 → all f (words (drop i s)) ≡ true
-none-left f s i h = rw (words-end s i h)
-
--- ---- the premises
-
-all-append : (f : ℕ → Bool) (a b : List ℕ) → all f (a ++ b) ≡ (all f a && all f b)
-all-append f [] b = refl
-all-append f (x ∷ a) b = ap (λ (y : Bool). f x && y) (all-append f a b) ∙ assoc (f x) (all f a) (all f b)
-  where
-    assoc : (x y z : Bool) → (x && (y && z)) ≡ ((x && y) && z)
-    assoc true y z = refl
-    assoc false y z = refl
-
-pub never-itself : (n : Net) (m : Marking) (e f : ℕ) → e ≡ f → false ≡ apart n m e f
-unfolding apart
-never-itself n m e f h = rw (eq-eqb e f h)
-
--- the lists of two events that differ, as they are read
-module _ (s l : List ℕ) (e here f there : ℕ) (p : Found s e here) (q : Found s f there) (differ : e ≡ f → ⊥) (kept preE postE preF postF : List ℕ)
-    (isKept : kept ≡ flags s) (isPreE : preE ≡ prePart s here) (isPostE : postE ≡ postPart s here) (isPreF : preF ≡ prePart s there) (isPostF : postF ≡ postPart s there) where
-  abbrev taken : Bool
-  taken = all (passesOf Shared kept (marking l) (words preF) (words postF)) (words preE)
-
-  abbrev put : Bool
-  put = all (passesOf Shared kept (marking l) (words preF) (words postF)) (words postE)
-
-  abbrev read : Bool
-  read = all (passesOf Held kept (marking l) (words preF) (words postF)) (words preF)
-
-  abbrev both : Bool
-  both = all (passesOf Once kept (marking l) (words preF) (words postF)) (words postE)
-
-  premises : apart (netOf s) (marking l) e f ≡ (true && (taken && put) && read && both)
-  unfolding apart touch
-  premises =
-      rw (net-judged s (Fine (p .events)) (p .judged), ne-eqb e f differ, isKept, isPreE, isPostE, isPreF, isPostF, p .place, q .place, all-append)
-
-  pub apart-by : (a b c d : Bool) → a ≡ taken → b ≡ put → c ≡ read → d ≡ both → ((a && b) && c && d) ≡ apart (netOf s) (marking l) e f
-  apart-by a b c d x y z w = rw (x, y, z, w) (sym premises)
 
 -- ---- a run and the steps before k
 

@@ -1,4 +1,4 @@
--- What the inner functions of the exchange need: an event found by its offset, and a run that has the two steps.
+-- What the inner functions of the exchange need: a run that has the two steps.
 use mathlib.Core.Path.{_≡_}
 use mathlib.Core.List.{List}
 use Prim.Native.Nat.{ℕ, suc, _≤_, _<_}
@@ -8,16 +8,9 @@ use Rattle.model.specs.Net.{begin}
 use Rattle.model.specs.Runs.{runs}
 use Rattle.model.specs.Across.{mostSteps}
 use Rattle.refusal.specs.declared.Judged.the-variants.{Fine}
-use Rattle.table.specs.Walk.{judgeOf, offsetOf}
+use Rattle.table.specs.Walk.{judgeOf}
 use Rattle.table.specs.Decoded.{netOf}
 use Rattle.played.specs.Played.{Indexed}
-
--- The record of an event of a judged table stands at an offset.
-pub record Found (s : List ℕ) (e at : ℕ) : Type 0 where
-  pub events : ℕ
-  pub judged : judgeOf s ≡ Fine events
-  pub below : e < events
-  pub place : at ≡ offsetOf s e
 
 -- A judged table with its index, and a run of it from its start that has steps k and k + 1.
 pub record Exchangeable (s : List ℕ) (n : ℕ) (offsets r : List ℕ) (k : ℕ) : Type 0 where

@@ -48,6 +48,7 @@ use Rattle.played.proofs.start.Reads as played-start
 use Rattle.played.proofs.step_event.Reads as step-event
 use Rattle.played.proofs.copy_front.Reads as copy-front
 use Rattle.played.proofs.write_end.Reads as write-end
+use Rattle.apart.proofs.apart_at.Reads as apart-at
 use Rattle.tally.proofs.number.Reads as count-at
 use Rattle.tally.proofs.raise.Reads as raised
 use Rattle.tally.proofs.tally.Reads as tallied
@@ -188,6 +189,9 @@ pub write-end-one : (κs : _) (a : _) (r q : _) (x y : _) → write-end.Learnt �
 write-end-one κs a r q x y h g =
     let e : r ≡ q = h .0 ∙ sym (g .0) in
     (e, h .1 ∙ ap (λ (z : Judged). leaves z (take (a .1 .0) (now (a .0)) ++ drop (a .1 .0) (now (a .1 .1 .0))) (now (a .1 .1 .0))) e ∙ sym (g .1))
+
+pub apart-at-one : (κs : _) (a : _) (r q : _) (x y : _) → apart-at.Learnt κs a r x → apart-at.Learnt κs a q y → r ≡ q
+apart-at-one κs a r q x y h g = h ∙ sym g
 
 -- ---- counts and places
 

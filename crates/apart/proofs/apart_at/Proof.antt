@@ -1,12 +1,12 @@
--- `exchange::apart_at` meets its contract.
+-- `apart::apart_at` meets its contract.
 use mathlib.Core.Path.{_∙_, sym, ap, refl}
 use mathlib.Core.Bool.{true, false}
 use borrow.Author.Tests.{not-true, not-false}
 use Rattle.records.specs.Records.{part, postPart}
-use Rattle.exchange.proofs.Exchanging.{never-itself, apart-by}
+use Rattle.apart.proofs.Premises.{never-itself, apart-by}
 use borrow.Author.Needs.{needs}
-use Rattle.exchange.proofs.apart_at.Statement.{statement}
-use Rattle.exchange.proofs.apart_at.Tie as tie
+use Rattle.apart.proofs.apart_at.Statement.{statement}
+use Rattle.apart.proofs.apart_at.Tie as tie
 
 returns : tie.Need-returns
 returns c =

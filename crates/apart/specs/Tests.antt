@@ -6,8 +6,8 @@ use lib.Dec.{eqb}
 use lib.ListN.{getD}
 use Rattle.lists.specs.Lists.{mem, _⇒_}
 use Rattle.model.specs.Net.{Marking}
-use Rattle.exchange.specs.declared.Test.{Test}
-use Rattle.exchange.specs.declared.Test.the-variants.{Shared, Held, Once}
+use Rattle.apart.specs.declared.Test.{Test}
+use Rattle.apart.specs.declared.Test.the-variants.{Shared, Held, Once}
 
 -- What a condition of a list must pass, by the flags of the persistent ones, a marking and the two lists of an event: the event touches
 -- it only if it is persistent; it holds if it is persistent, or if it is so and the event puts it (01, Runs across).

@@ -1,8 +1,8 @@
--- `exchange::passes` meets its contract.
+-- `apart::passes` meets its contract.
 use Rattle.model.specs.Lent.{marking}
 use borrow.Author.Needs.{needs}
-use Rattle.exchange.proofs.passes.Statement.{statement}
-use Rattle.exchange.proofs.passes.Tie as tie
+use Rattle.apart.proofs.passes.Statement.{statement}
+use Rattle.apart.proofs.passes.Tie as tie
 
 returns : tie.Need-returns
 unfolding marking

@@ -1,4 +1,4 @@
--- `exchange::all_pass` meets its contract.
+-- `apart::all_pass` meets its contract.
 use Prim.Native.Nat.{_-_, _≤_}
 use native.Mathlib.Omega.{arith}
 use mathlib.Core.Path.{_≡_, _∙_, sym}
@@ -6,11 +6,11 @@ use lib.ListN.{length, drop}
 use Rattle.lists.specs.Lists.{all}
 use Rattle.words.specs.Words.{words}
 use Rattle.model.specs.Lent.{marking}
-use Rattle.exchange.specs.Tests.{passesOf}
-use Rattle.exchange.proofs.Exchanging.{one-fails, one-passes, none-left}
+use Rattle.apart.specs.Tests.{passesOf}
+use Rattle.apart.proofs.Walked.{one-fails, one-passes, none-left}
 use borrow.Author.Needs.{needs}
-use Rattle.exchange.proofs.all_pass.Statement.{statement}
-use Rattle.exchange.proofs.all_pass.Tie as tie
+use Rattle.apart.proofs.all_pass.Statement.{statement}
+use Rattle.apart.proofs.all_pass.Tie as tie
 
 abbrev Inv-loop : tie.InvT-loop
 Inv-loop test flags state pre post list i₀ i =

@@ -1,8 +1,8 @@
--- `exchange::unshared` meets its contract.
+-- `apart::unshared` meets its contract.
 use Rattle.lists.proofs.Members.{mem-append}
 use borrow.Author.Needs.{needs}
-use Rattle.exchange.proofs.unshared.Statement.{statement}
-use Rattle.exchange.proofs.unshared.Tie as tie
+use Rattle.apart.proofs.unshared.Statement.{statement}
+use Rattle.apart.proofs.unshared.Tie as tie
 
 returns : tie.Need-returns
 returns c =
