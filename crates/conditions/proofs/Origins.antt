@@ -1,5 +1,5 @@
 -- What stands behind an unfolded condition's number, by the condition that the number falls to.
-use Prim.Native.Nat.{ℕ, zero, suc, _+_, _*_, _-_, _/_, _%_, _≤_, _<_}
+use Prim.Native.Nat.{ℕ, _+_, _*_, _-_, _/_, _%_, _≤_, _<_}
 use native.Mathlib.Omega.{arith}
 use native.Mathlib.Numerals.{add-one}
 use native.Mathlib.Nat.{div-lt-iff-lt-mul}
@@ -12,6 +12,7 @@ use lib.ListN.{length, getD, getElem?}
 use borrow.Author.Tests.{lt-ltb, le-ltb}
 use Rattle.lists.specs.Lists.{mem, sum}
 use Rattle.lists.proofs.Places.{at-lt, at-getD}
+use Rattle.lists.proofs.Products.{some-length}
 use Rattle.model.specs.Runs.{atStart}
 use Rattle.model.specs.Unfolding.{UnfoldedCondition, ordinary, copy, markers, users, unfoldedConditions, basic}
 use Rattle.model.specs.Numbering.{width, conditionCount}
@@ -44,11 +45,6 @@ module _ (f : ℕ → ℕ) (c : ℕ) (bases : List ℕ) (t : Sums f c bases) (b 
 
 pub next-sum : (f : ℕ → ℕ) (b i : ℕ) → sum f b + f b ≤ i → sum f (b + 1) ≤ i
 next-sum f b i h = rw add-one h
-
--- a place in lists of one length has a length to be in
-some-length : (a l r : ℕ) → r < a * l → 0 < l
-some-length a zero r h = absurd (omega arith)
-some-length a (suc l) r h = omega arith
 
 -- ---- what is told
 

@@ -12,6 +12,7 @@ use borrow.Author.Tests.{lt-ltb}
 use Rattle.lists.specs.Lists.{mem, index, sum}
 use Rattle.lists.proofs.Bools.{is-true, T-of, not-true}
 use Rattle.lists.proofs.Places.{at-lt}
+use Rattle.lists.proofs.Products.{place-most}
 use Rattle.model.specs.Net.{Net, Marking, begin}
 use Rattle.model.specs.Lent.{bit, bytes, marking}
 use Rattle.model.specs.Runs.{atStart, byEvent}
@@ -33,7 +34,7 @@ use Rattle.layout.proofs.Limits.{conditions-are-all}
 use Rattle.copies.specs.Copies.{holdsBy}
 use Rattle.copies.specs.Writing.{Within, Fits, Ranged, ownCount, ownByte, copiesFrom, copiesCount, ListFits, Listed, Right, ownBelow, markedBelow, Roomy}
 use Rattle.copies.proofs.Ranges.{within-dec}
-use Rattle.copies.proofs.Where.{place-most, rangeOf, event-place, copy-at, ordinary-place, ordinary-kind, ordinary-below, copy-kind, copy-below, copy-marker, copy-within, event-marking}
+use Rattle.copies.proofs.Where.{rangeOf, event-place, copy-at, ordinary-place, ordinary-kind, ordinary-below, copy-kind, copy-below, copy-marker, copy-within, event-marking}
 
 -- ---- one range more
 

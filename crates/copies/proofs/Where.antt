@@ -1,7 +1,7 @@
 -- Where the copies of a condition for one marker stand, and that nothing else stands there.
-use Prim.Native.Nat.{ℕ, zero, suc, _+_, _*_, _-_, _≤_, _<_}
+use Prim.Native.Nat.{ℕ, zero, suc, _+_, _*_, _-_, _<_}
 use native.Mathlib.Omega.{arith}
-use native.Mathlib.Nat.{mul-le-mul, add-zero, suc-add, zero-add}
+use native.Mathlib.Nat.{add-zero, suc-add, zero-add}
 use mathlib.Core.Path.{_≡_, refl, sym, _∙_, ap, subst}
 use mathlib.Core.Bool.{Bool, true, false, cond}
 use mathlib.Core.Logic.{inl, inr}
@@ -15,6 +15,7 @@ use Rattle.lists.proofs.Bools.{is-true}
 use Rattle.lists.proofs.Members.{in-mem}
 use Rattle.lists.proofs.Places.{in-at, at-lt, at-some, number-index}
 use Rattle.lists.proofs.Positions.{at-map, spread-at, base-at}
+use Rattle.lists.proofs.Products.{place-below}
 use Rattle.model.specs.Net.{Net}
 use Rattle.model.specs.Runs.{Marker, byEvent}
 use Rattle.model.specs.Unfolding.{sameMarker, ordinary, copy, markers, users, copies, unfoldedConditions}
@@ -24,13 +25,6 @@ use Rattle.model.proofs.Counts.{marker-at, width-copies, countedCondition-back}
 use Rattle.model.proofs.Sets.{conditions-paper, markers-paper}
 use Rattle.tally.specs.Having.{having}
 use Rattle.copies.specs.Writing.{Within}
-
--- lists of one length end within all of them together, and a place in one lies below that end
-pub place-most : (i m l : ℕ) → i < m → i * l + l ≤ m * l
-place-most i m l h = omega (arith, mul-le-mul {m₁ = l} {m₂ = l} h (omega arith))
-
-place-below : (i m l u : ℕ) → i < m → u < l → i * l + u < m * l
-place-below i m l u h k = omega (arith, place-most i m l h)
 
 -- ---- markers by event
 

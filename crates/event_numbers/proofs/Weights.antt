@@ -1,14 +1,15 @@
 -- One step of the recursion from markers to a colour's number.
 use Prim.Native.Nat.{ℕ, suc, _+_, _*_, _-_, _≤_, _<_}
 use native.Mathlib.Omega.{arith}
-use native.Mathlib.Nat.{mul-comm, suc-mul, mul-le-mul-right, le-mul-of-pos-right}
+use native.Mathlib.Nat.{mul-comm, le-mul-of-pos-right}
 use native.Mathlib.Numerals.{add-one}
 use mathlib.Core.Path.{_≡_, refl, sym}
 use mathlib.Core.List.{List, [], _∷_}
 use mathlib.Core.Bool.{Bool, true, false, and-false, cond}
 use lib.ListN.{length, getD}
 use borrow.Author.Tests.{lt-ltb, le-ltb}
-use Rattle.lists.specs.Lists.{index}
+use Rattle.lists.specs.Lists.{index, count}
+use Rattle.lists.proofs.Products.{place-below}
 use Rattle.words.specs.Words.{wordAt, words}
 use Rattle.model.specs.Runs.{Marker}
 use Rattle.model.specs.Unfolding.{sameMarker, markers}
@@ -63,7 +64,7 @@ module _ (ms : List Marker) (mss : List (List Marker)) (m : Marker) (c : List Ma
     pub more-fits : index (sameMarker m) ms * w + k < length ms * w
     more-fits =
         let t = weighed-told mss c w k e in
-        omega (arith, radix-below mss c (t .all), t .weight, t .place, suc-mul (index (sameMarker m) ms) w, mul-le-mul-right {m = suc (index (sameMarker m) ms)} {n = length ms} w h)
+        place-below (index (sameMarker m) ms) (length ms) w k h (omega (arith, radix-below mss c (t .all), t .weight, t .place))
 
 -- ---- the markers of a colour, one at a time
 

@@ -1,5 +1,5 @@
 -- One step of the recursion from a colour's number to its markers.
-use Prim.Native.Nat.{ℕ, zero, suc, _*_, _-_, _/_, _%_, _≤_, _<_}
+use Prim.Native.Nat.{ℕ, _*_, _-_, _/_, _%_, _≤_, _<_}
 use native.Mathlib.Omega.{arith}
 use native.Mathlib.Nat.{mul-div-cancel-left, mod-lt, div-lt-iff-lt-mul, div-le-self}
 use mathlib.Core.Path.{_≡_, sym, ap, _∙_}
@@ -9,6 +9,7 @@ use lib.Dec.{T, eqb, eqb-refl}
 use lib.ListN.{length, getD, take, drop, length-drop}
 use Rattle.lists.specs.Lists.{mem, keep}
 use Rattle.lists.proofs.Bools.{or-left, or-right}
+use Rattle.lists.proofs.Products.{some-length}
 use Rattle.words.specs.Words.{wordAt, words}
 use Rattle.model.specs.Runs.{Marker, atStart}
 use Rattle.model.specs.Unfolding.{markers}
@@ -59,10 +60,6 @@ module _ (s ms : List ℕ) (events : ℕ) (w : Within s ms events) (pre : List �
 pub picked-none : (s : List ℕ) (c : Colour) (pre : List ℕ) (rest : ℕ) → length pre < 2 → c ≡ pushAll c (digits (choicesOf s (words pre)) rest)
 unfolding pushAll
 picked-none s c pre rest h = rw (words-short pre h)
-
-some-length : (a l r : ℕ) → r < a * l → 0 < l
-some-length a zero r h = absurd (omega arith)
-some-length a (suc l) r h = omega arith
 
 module _ (s ms : List ℕ) (events : ℕ) (c : Colour) (pre : List ℕ) (weight rest : ℕ) (p : Picking s ms events c (words pre) weight rest) (h : 2 ≤ length pre) (b : ℕ) (e : b ≡ wordAt pre 0) where
   low : b < 256

@@ -4,4 +4,5 @@ pub mod Members
 pub mod Tests
 pub mod Places
 pub mod Positions
+pub mod Products
 pub mod Distinct

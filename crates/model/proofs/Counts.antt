@@ -13,6 +13,7 @@ use Rattle.lists.specs.Lists.{mem, index, keep, count, sum, spread, _∈_}
 use Rattle.lists.proofs.Places.{in-at, at-some, index-at, number-index}
 use Rattle.lists.proofs.Positions.{at-map, at-map-out, length-spread, spread-at, spread-where, length-base, base-at, base-where}
 use Rattle.lists.proofs.Distinct.{Distinct, distinct-cons, distinct-map, distinct-keep}
+use Rattle.lists.proofs.Products.{some-length}
 use Rattle.model.specs.Net.{Net}
 use Rattle.model.specs.Runs.{Marker, atStart, byEvent}
 use Rattle.model.specs.Unfolding.{sameMarker, UnfoldedCondition, ordinary, copy, markers, users, copies, unfoldedConditions, UnfoldedEvent, reads, choices, colours, unfoldedEvents}
@@ -43,11 +44,6 @@ marker-place n b m i h = distinct-markers n b m (index (sameMarker m) (markers n
 
 user-place : (n : Net) (b u i : ℕ) → getElem? (users n b) i ≡ some u → index (eqb u) (users n b) ≡ i
 user-place n b u i h = distinct-users n b u (index (eqb u) (users n b)) i (number-index u (users n b) (in-at (users n b) i h)) h
-
--- a place in lists of one length has a length to be in
-some-length : (a l r : ℕ) → r < a * l → 0 < l
-some-length a zero r h = absurd (omega arith)
-some-length a (suc l) r h = omega arith
 
 -- ---- colours
 

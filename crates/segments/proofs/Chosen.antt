@@ -2,7 +2,7 @@
 use mathlib.Core.Path.{_≡_, refl, sym, _∙_, ap}
 use mathlib.Core.Bool.{Bool, true, false}
 use mathlib.Core.List.{List, [], _∷_}
-use Prim.Native.Nat.{ℕ, zero, suc, _+_, _-_, _*_, _/_, _%_, _≤_, _<_}
+use Prim.Native.Nat.{ℕ, suc, _+_, _-_, _*_, _/_, _%_, _≤_, _<_}
 use lib.Dec.{T, eqb, eqb-refl, leb}
 use lib.ListN.{length, getD, drop, set, length-set}
 use lib.Seq.{getD-set-same, getD-set-other}
@@ -13,6 +13,7 @@ use Rattle.lists.specs.Lists.{mem, keep, ascending-from}
 use Rattle.lists.proofs.Bools.{T-of, is-true, is-false, not-true, or-left, or-right, or-none, or-cases, and-right}
 use Rattle.lists.proofs.Members.{mem-in, in-mem, keep-out}
 use Rattle.lists.proofs.Distinct.{ascending-least}
+use Rattle.lists.proofs.Products.{some-length}
 use Rattle.model.specs.Runs.{Marker, atStart}
 use Rattle.model.specs.Unfolding.{sameMarker, markers, picked}
 use Rattle.model.specs.Numbering.{ways, digits}
@@ -25,10 +26,6 @@ use Rattle.unfolding.specs.Numbers.{choicesOf}
 use Rattle.layout.proofs.Counts.{marks-at}
 use Rattle.unfolding.proofs.Places.{some-marker}
 use Rattle.segments.specs.Ranges.{choicesAt, chosenFrom, Choosing}
-
-some-length : (a l r : ℕ) → r < a * l → 0 < l
-some-length a zero r h = absurd (omega arith)
-some-length a (suc l) r h = omega arith
 
 module _ (s : List ℕ) (flags : (b : ℕ) → flagged s b ≡ netOf s .persistent b) where
   -- what is not in the list keeps its number

@@ -3,11 +3,10 @@ use mathlib.Core.Path.{_≡_, refl, sym, _∙_, ap, ap₂, subst}
 use mathlib.Core.Bool.{Bool, true, false, _&&_, _||_, and-false, cond}
 use mathlib.Core.Option.{some}
 use mathlib.Core.List.{List, [], _∷_, _++_, map}
-use Prim.Native.Nat.{ℕ, suc, _+_, _*_, _-_, _≤_, _<_}
+use Prim.Native.Nat.{ℕ, _+_, _*_, _-_, _≤_, _<_}
 use lib.Dec.{T, eqb, eqb→eq, eqb-refl}
 use lib.ListN.{getElem?, length, getD, length-map}
-use native.Mathlib.Nat.{suc-mul, mul-le-mul-right}
-use native.Mathlib.Decide.{decLe}
+use native.Mathlib.Nat.{mul-le-mul-right}
 use native.Mathlib.Omega.{arith}
 use borrow.Author.Tests.{eq-eqb}
 use Rattle.lists.specs.Lists.{mem, sum, count, places-from}
@@ -15,6 +14,7 @@ use Rattle.lists.proofs.Bools.{T-of, is-false, not-true, iff, and-left, and-rig
 use Rattle.lists.proofs.Members.{in-mem, keep-out}
 use Rattle.lists.proofs.Places.{at-lt, at-some}
 use Rattle.lists.proofs.Positions.{at-map-out, spread-where}
+use Rattle.lists.proofs.Products.{one-place, place-below, place-most}
 use Rattle.model.specs.Net.{Net}
 use Rattle.model.specs.Runs.{Marker, atStart, byEvent}
 use Rattle.model.specs.Unfolding.{sameMarker, UnfoldedCondition, ordinary, copy, markers, users, copies, UnfoldedEvent, reads, picked, takes, puts}
@@ -27,22 +27,6 @@ use Rattle.segments.specs.Ranges.{within, aloneOf, joinedOf, touching, a
 use Rattle.segments.proofs.Places.{inside, inside-in, inside-out, nothing-in, places-two}
 use Rattle.segments.proofs.Having.{user-here, marker-here, marker-most}
 use Rattle.segments.proofs.Spans.{has, Between, alone-between, alone-has, joined-has, joined-between}
-
--- a place in lists of one length tells which list and which place in it
-pub one-place : (a b u v w : ℕ) → v < u → w < u → a * u + v ≡ b * u + w → (a ≡ b) × (v ≡ w)
-one-place a b u v w h l e = go (decLe a b) (decLe b a)
-  where
-    over : (a b v : ℕ) → v < u → a < b → a * u + v < b * u
-    over a b v h l = omega (arith, suc-mul a u, mul-le-mul-right {m = suc a} {n = b} u l)
-
-    go : Dec (a ≤ b) → Dec (b ≤ a) → (a ≡ b) × (v ≡ w)
-    go (yes p) (yes q) = let z : a ≡ b = omega arith in (z, omega (arith, ap (λ (x : ℕ). x * u) z))
-    go (no p) y = absurd (omega (arith, over b a w l (omega arith)))
-    go (yes p) (no q) = absurd (omega (arith, over a b v h (omega arith)))
-
--- the last of a list's places is below the length of all
-pub place-below : (a m u v : ℕ) → a < m → v < u → a * u + v < m * u
-place-below a m u v h l = omega (arith, suc-mul a u, mul-le-mul-right {m = suc a} {n = m} u h)
 
 module _ (n : Net) (b : ℕ) (p : n .persistent b ≡ true) where
   -- the copy at a place: which marker's and which user's
@@ -130,7 +114,7 @@ module _ (n : Net) (b : ℕ) (p : n .persistent b ≡ true) where
             put false f = omega (arith, none-put)
             put true f =
                 let l = at-lt (markers n b) q (marker-here n b e h f) in
-                omega (arith, suc-mul q (length (users n b)), mul-le-mul-right {m = suc q} {n = length (markers n b)} (length (users n b)) l)
+                omega (arith, place-most q (length (markers n b)) (length (users n b)) l)
 
     -- a segment that has what the event touches is what the condition adds
     is-added : (g : Segment) → Between base (base + length (markers n b) * length (users n b)) g

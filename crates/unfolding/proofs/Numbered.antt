@@ -1,7 +1,6 @@
 -- What stands at an unfolded event's number, and which places the colours of its event have.
 use Prim.Native.Nat.{ℕ, suc, _+_, _<_}
 use native.Mathlib.Omega.{arith}
-use native.Mathlib.Nat.{suc-mul, mul-le-mul-right}
 use mathlib.Core.Path.{_≡_, refl, sym, subst}
 use mathlib.Core.List.{List, [], _∷_, map, List·Memᴰ·head, List·Memᴰ·tail}
 use mathlib.Core.Bool.{Bool, true, false, _&&_, cond}
@@ -11,6 +10,7 @@ use borrow.Author.Tests.{lt-ltb, ltb-true}
 use Rattle.lists.specs.Lists.{index, sum, _∈_}
 use Rattle.lists.proofs.Bools.{T-of, and-both}
 use Rattle.lists.proofs.Places.{at-lt, at-getD}
+use Rattle.lists.proofs.Products.{place-below}
 use Rattle.model.specs.Net.{Net}
 use Rattle.model.specs.Runs.{Marker}
 use Rattle.model.specs.Unfolding.{sameMarker, markers, reads, unfoldedEvents, origin, basic}
@@ -57,7 +57,7 @@ radix-below (ms ∷ mss) [] t = absurd (let z : _≡_ {A = ℕ} 0 1 = cc in omeg
 radix-below (ms ∷ mss) (m ∷ c) t =
     let b = both (ltb (index (sameMarker m) ms) (length ms)) (allMark mss c) t in
     let low = ltb-true (index (sameMarker m) ms) (length ms) (b .0) in
-    omega (arith, radix-below mss c (b .1), suc-mul (index (sameMarker m) ms) (ways mss), mul-le-mul-right {m = suc (index (sameMarker m) ms)} {n = length ms} (ways mss) low)
+    place-below (index (sameMarker m) ms) (length ms) (ways mss) (radix mss c) low (radix-below mss c (b .1))
 
 -- ---- origins
 
