@@ -1,3 +1,2 @@
--- The laws: numbers stored one after the other, then what is asked for.
-pub mod Stored
+-- The laws of what is asked for.
 pub mod Listed

@@ -1,15 +1,15 @@
 -- What the call on one list answers and writes.
 use mathlib.Core.Path.{_≡_, sym, _∙_, ap}
 use mathlib.Core.Bool.{Bool, true}
-use mathlib.Core.List.{List, _++_}
+use mathlib.Core.List.{List}
 use Prim.Native.Nat.{ℕ, _+_, _≤_, _<_}
 use lib.Dec.{ltb}
-use lib.ListN.{length, getD, drop}
-use lib.Seq.{sets, sets-eq}
-use native.Mathlib.Nat.{zero-add}
+use lib.ListN.{length, getD}
+use lib.Seq.{sets}
 use native.Mathlib.Omega.{arith}
 use borrow.Author.Tests.{le-ltb, le-leb, lt-leb}
 use Rattle.lists.specs.Lists.{sum}
+use Rattle.lists.proofs.Stored.{stored-whole}
 use Rattle.model.specs.Unfolding.{basic}
 use Rattle.model.specs.Numbering.{size, eventCount}
 use Rattle.refusal.specs.declared.Judged.{Judged}
@@ -25,9 +25,6 @@ use Rattle.unfolding.proofs.Numbered.{events-basic, origin-low}
 use Rattle.listed.specs.Calls.{listingOf, listedOf}
 use Rattle.segments.specs.Ranges.{ranged, Ranges}
 use Rattle.segments.proofs.Ranged.{ranged-length}
-
-pub stored-whole : (answer out : List ℕ) → length answer ≤ length out → sets out 0 answer ≡ answer ++ drop (length answer) out
-stored-whole answer out h = rw (sets-eq answer out 0 (omega arith), zero-add)
 
 module _ (s : List ℕ) (post : Bool) (j : ℕ) (out : List ℕ) where
   -- a refusal leaves the output

@@ -1,18 +1,13 @@
 -- Texts put at a place of lent bytes, one after the other, and a whole one as the answer.
 use Prim.Native.Nat.{ℕ, suc, _+_, _≤_, _<_}
-use native.Mathlib.Numerals.{add-one}
-use native.Mathlib.Nat.{add-zero, zero-add, add-suc, suc-add}
+use native.Mathlib.Nat.{add-zero, add-suc, suc-add}
 use native.Mathlib.Omega.{arith}
 use mathlib.Core.Path.{_≡_, refl, sym, _∙_, ap, subst}
 use mathlib.Core.List.{List, [], _∷_, _++_}
-use lib.ListN.{length, length-append, getD, drop, set, drop-of-length-le}
-use lib.Seq.{sets, sets-eq, length-sets, set-comm, set-out, drop-cons}
+use lib.ListN.{length, length-append, getD, drop, set}
+use lib.Seq.{sets, length-sets, set-comm, set-out}
+use Rattle.lists.proofs.Stored.{stored-whole, store-next, store-end, store-both}
 use Rattle.listing.specs.Puts.{Put}
-
--- Storing two texts, one after the other, is storing both as one.
-sets-both : (x y out : List ℕ) (at : ℕ) → sets out at (x ++ y) ≡ sets (sets out at x) (at + length x) y
-sets-both [] y out at = rw add-zero
-sets-both (b ∷ x) y out at = rw (add-suc, ← suc-add) (sets-both x y (set out at b) (suc at))
 
 -- A last byte may be stored before those in front of it.
 pub sets-last : (x out : List ℕ) (b at : ℕ) → sets out at (x ++ (b ∷ [])) ≡ sets (set out (at + length x) b) at x
@@ -32,7 +27,7 @@ pub both : {out : List ℕ} {at : ℕ} {x : List ℕ} {r : ℕ} {mid y : List �
 both {out} {at} {x} {r} {mid} {y} p q =
     record {
       told = rw length-append (omega (arith, p .told, q .told));
-      stored = q .stored ∙ rw (p .stored, p .told, sets-both x y out at);
+      stored = q .stored ∙ rw (p .stored, p .told, store-both x y out at);
     }
 
 -- Equal texts are put alike.
@@ -45,18 +40,18 @@ put-long {out} {at} {x} p = ap length (p .stored) ∙ length-sets out at x
 
 -- A text that fits, put at the first byte, is the answer with everything past it as it was.
 pub put-whole : {out x : List ℕ} {r : ℕ} {after : List ℕ} → Put out 0 x r after → length x ≤ length out → after ≡ x ++ drop (length x) out
-put-whole {out} {x} p h = p .stored ∙ rw (sets-eq x out 0 (omega arith), zero-add)
+put-whole {out} {x} p h = p .stored ∙ stored-whole x out h
 
 -- Storing a text from its byte k on is storing that byte and then the text after it, and nothing is left past the last.
 pub next-byte : (text out : List ℕ) (at k : ℕ) → k < length text → sets out (at + k) (drop k text) ≡ sets (set out (at + k) (getD text k 0)) (at + (k + 1)) (drop (k + 1) text)
 next-byte text out at k h =
-    let e : at + (k + 1) ≡ suc (at + k) = omega arith in
-    rw (e, add-one, drop-cons text k 0 h)
+    let e : at + (k + 1) ≡ at + k + 1 = omega arith in
+    rw e (store-next out text (at + k) k 0 h)
 
 pub no-byte : (text out : List ℕ) (at k : ℕ) → length text ≤ k → sets out (at + k) (drop k text) ≡ out
-no-byte text out at k h = rw (drop-of-length-le text h)
+no-byte text out at k h = store-end out text (at + k) k h
 
 -- What is left to put after a text is left of both, so that the place and the bytes come out the same.
 pub goes-on : {out : List ℕ} {at : ℕ} {x : List ℕ} {r : ℕ} {mid : List ℕ} (y : List ℕ) → Put out at x r mid → (r + length y ≡ at + length (x ++ y)) × (sets mid r y ≡ sets out at (x ++ y))
 goes-on {out} {at} {x} {r} {mid} y p =
-    (rw length-append (omega (arith, p .told)), rw (p .stored, p .told, sets-both x y out at))
+    (rw length-append (omega (arith, p .told)), rw (p .stored, p .told, store-both x y out at))

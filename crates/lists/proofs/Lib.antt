@@ -5,4 +5,5 @@ pub mod Tests
 pub mod Places
 pub mod Positions
 pub mod Products
+pub mod Stored
 pub mod Distinct

@@ -1,12 +1,10 @@
 -- What a loop stores from the first element on, and the markers of a colour one by one.
-use Prim.Native.Nat.{ℕ, zero, suc, _+_, _-_, _≤_, _<_}
-use native.Mathlib.Numerals.{add-one}
+use Prim.Native.Nat.{ℕ, zero, suc, _+_, _-_, _<_}
 use native.Mathlib.Nat.{not-suc-le-zero, le-of-suc-le-suc, zero-add, add-zero, add-suc, suc-add}
 use native.Mathlib.Omega.{arith}
 use mathlib.Core.Path.{_≡_, refl, ap, _∙_}
-use mathlib.Core.List.{List, [], _∷_, _++_, map}
-use lib.ListN.{length, getD, drop, set, drop-of-length-le, length-map}
-use lib.Seq.{drop-cons, sets, sets-eq}
+use mathlib.Core.List.{List, [], _∷_, map}
+use lib.ListN.{length, getD, length-map}
 use Rattle.lists.specs.Lists.{count}
 use Rattle.lists.proofs.Members.{length-count}
 use Rattle.refusal.specs.declared.Marker.the-variants.{Start}
@@ -15,18 +13,6 @@ use Rattle.events.specs.Colours.{markerAt, colourOf}
 use Rattle.outward.specs.Words.{startWord, wordOf, markerOf, picksFor, wordsOf}
 
 module _ {A : Type 0} where
-  -- Stored whole, a list that fits stands first, and everything past it stays.
-  pub stored-whole : (list out : List A) → length list ≤ length out → sets out 0 list ≡ list ++ drop (length list) out
-  stored-whole list out h = rw (sets-eq list out 0 (omega arith), zero-add)
-
-  -- Storing what is left from element k on is to store that element and then what is left after it.
-  pub store-next : (out list : List A) (k : ℕ) (d : A) → k < length list → sets out k (drop k list) ≡ sets (set out k (getD list k d)) (k + 1) (drop (k + 1) list)
-  store-next out list k d h = rw (add-one, drop-cons list k d h)
-
-  -- Nothing is left past the last element.
-  pub store-end : (out list : List A) (k : ℕ) → length list ≤ k → sets out k (drop k list) ≡ out
-  store-end out list k h = rw (drop-of-length-le list h)
-
   -- An element that is there is read with any default.
   pub read-with : (l : List A) (i : ℕ) (a b : A) → i < length l → getD l i a ≡ getD l i b
   read-with [] i a b h = absurd (not-suc-le-zero h)

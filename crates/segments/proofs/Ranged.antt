@@ -12,6 +12,7 @@ use Rattle.lists.specs.Lists.{mem, count, spread, sum}
 use Rattle.lists.proofs.Bools.{or-left, or-right}
 use Rattle.lists.proofs.Members.{mem-append, in-mem, count-in, length-count}
 use Rattle.lists.proofs.Positions.{spread-append, count-split}
+use Rattle.lists.proofs.Stored.{store-both}
 use Rattle.segments.specs.declared.Segment.{Segment}
 use Rattle.segments.specs.Ranges.{rangedFrom, ranged, within}
 
@@ -96,10 +97,6 @@ module _ (starts sizes : List ℕ) (i k : ℕ) where
 
 -- ---- put into an output
 
-sets-append : (out : List ℕ) (at : ℕ) (xs ys : List ℕ) → sets out at (xs ++ ys) ≡ sets (sets out at xs) (at + length xs) ys
-sets-append out at [] ys = rw add-zero
-sets-append out at (x ∷ xs) ys = let z : at + suc (length xs) ≡ suc at + length xs = omega arith in rw z (sets-append (set out at x) (suc at) xs ys)
-
 pub put-on : (out : List ℕ) (at first size i : ℕ) → i < size
     → sets out (at + i) (count (first + i) (size - i)) ≡ sets (set out (at + i) (first + i)) (at + (i + 1)) (count (first + (i + 1)) (size - (i + 1)))
 put-on out at first size i h =
@@ -118,5 +115,5 @@ pub put-next : (starts sizes : List ℕ) (i k : ℕ) → i < k → (out : List �
     → sets out at (rangedFrom starts sizes i (k - i)) ≡ sets (sets out at (count first size)) (at + size) (rangedFrom starts sizes (i + 1) (k - (i + 1)))
 put-next starts sizes i k h out at first size p q =
     ap (sets out at) (ranged-on starts sizes i k h)
-    ∙ sets-append out at (count (getD starts i 0) (getD sizes i 0)) (rangedFrom starts sizes (i + 1) (k - (i + 1)))
+    ∙ store-both (count (getD starts i 0) (getD sizes i 0)) (rangedFrom starts sizes (i + 1) (k - (i + 1))) out at
     ∙ rw (length-count, p, q)

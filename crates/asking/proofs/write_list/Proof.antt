@@ -7,11 +7,11 @@ use lib.ListN.{length, drop, length-set}
 use lib.Seq.{sets}
 use borrow.Author.Needs.{needs}
 use borrow.Author.Tests.{lt-leb, le-leb}
+use Rattle.lists.proofs.Stored.{stored-whole, store-next, store-end}
 use Rattle.words.specs.Words.{words}
 use Rattle.words.proofs.Laws.{length-words, words-at}
 use Rattle.refusal.specs.Answer.{fitting}
 use Rattle.refusal.proofs.Chain.{need-passes, need-refuses}
-use Rattle.asking.proofs.Stored.{stored-whole, store-next, store-end}
 use Rattle.asking.proofs.write_list.Statement.{statement}
 use Rattle.asking.proofs.write_list.Tie as tie
 
@@ -36,7 +36,7 @@ loop-again c =
     let loop = c .before .before .loop in
     let part : List ℕ = c .before .before .before .before .before .before .args .part .now in
     let value = words-at part (loop .k) (omega (arith, length-words part, loop .inv .0, c .before .loop-test .taken)) in
-    let step = store-next (loop .out) (words part) (loop .k) (omega (arith, loop .inv .0, c .before .loop-test .taken)) in
+    let step = store-next (loop .out) (words part) (loop .k) (loop .k) 0 (omega (arith, loop .inv .0, c .before .loop-test .taken)) in
     (loop .inv .0, simp length-set (loop .inv .1), rw (c .word .ensures, ← value, ← step) (loop .inv .2))
 
 returns-2 : tie.Need-returns-2 Inv-loop μ-loop
@@ -45,7 +45,7 @@ returns-2 c =
     let args = c .before .before .before .before .before .args in
     let loop = c .before .loop in
     let fits = c .before .before .if1 .left in
-    let end = store-end (loop .out) (words (args .part .now)) (loop .k) (omega (arith, loop .inv .0, c .loop-test .left)) in
+    let end = store-end (loop .out) (words (args .part .now)) (loop .k) (loop .k) (omega (arith, loop .inv .0, c .loop-test .left)) in
     let whole = stored-whole (words (args .part .now)) (args .out .now) (omega (arith, loop .inv .0, fits)) in
     (rw (← (loop .inv .0)) (sym (need-passes 16 _ (le-leb _ _ fits))), sym end ∙ loop .inv .2 ∙ whole)
 

@@ -4,9 +4,10 @@ use native.Mathlib.Omega.{arith}
 use mathlib.Core.Path.{_≡_, refl, sym, _∙_}
 use lib.ListN.{length, drop, length-set}
 use lib.Seq.{sets}
+use Rattle.lists.proofs.Stored.{store-next, store-end}
 use Rattle.refusal.specs.declared.Marker.the-variants.{Start}
 use Rattle.outward.specs.Words.{picksFor, colourFor}
-use Rattle.outward.proofs.Stored.{store-next, store-end, picks-long, pick-at}
+use Rattle.outward.proofs.Stored.{picks-long, pick-at}
 use borrow.Author.Needs.{needs}
 use Rattle.outward.proofs.colour_of.Statement.{statement}
 use Rattle.outward.proofs.colour_of.Tie as tie
@@ -28,7 +29,7 @@ loop-again c =
     let ws = c .before .before .before .before .before .args .words .now in
     let i : ℕ = loop .i in
     let value = pick-at ws i (c .before .before .loop-test .taken) in
-    let step = store-next (loop .picks) (picksFor ws) i (record { 0 = Start }) (omega (arith, picks-long ws, c .before .before .loop-test .taken)) in
+    let step = store-next (loop .picks) (picksFor ws) i i (record { 0 = Start }) (omega (arith, picks-long ws, c .before .before .loop-test .taken)) in
     (simp length-set (loop .inv .0), rw (c .marker-of .ensures, c .before .word-at .ensures, ← value, ← step) (loop .inv .1))
 
 returns : tie.Need-returns Inv-loop μ-loop
@@ -36,7 +37,7 @@ unfolding colourFor
 returns c =
     let loop = c .before .loop in
     let ws = c .before .before .before .args .words .now in
-    let end = store-end (loop .picks) (picksFor ws) (loop .i) (omega (arith, picks-long ws, c .loop-test .left)) in
+    let end = store-end (loop .picks) (picksFor ws) (loop .i) (loop .i) (omega (arith, picks-long ws, c .loop-test .left)) in
     let same = sym end ∙ loop .inv .1 in
     rw same
 

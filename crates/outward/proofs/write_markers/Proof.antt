@@ -5,10 +5,11 @@ use mathlib.Core.Path.{_≡_, refl, sym, ap, _∙_}
 use lib.ListN.{length, drop, length-set}
 use lib.Seq.{sets}
 use borrow.Author.Tests.{lt-leb, le-leb}
+use Rattle.lists.proofs.Stored.{stored-whole, store-next, store-end}
 use Rattle.refusal.specs.Answer.{fitting}
 use Rattle.refusal.proofs.Chain.{need-passes, need-refuses}
 use Rattle.outward.specs.Words.{wordOf, wordsOf}
-use Rattle.outward.proofs.Stored.{stored-whole, store-next, store-end, words-long, word-here}
+use Rattle.outward.proofs.Stored.{words-long, word-here}
 use borrow.Author.Needs.{needs}
 use Rattle.outward.proofs.write_markers.Statement.{statement}
 use Rattle.outward.proofs.write_markers.Tie as tie
@@ -34,7 +35,7 @@ loop-again c =
     let colour = c .before .before .before .before .before .before .args .colour in
     let i : ℕ = loop .i in
     let value = c .word-of .ensures ∙ ap wordOf (c .before .marker-at .ensures) ∙ sym (word-here colour i (omega (arith, loop .inv .0, c .before .before .loop-test .taken))) in
-    let step = store-next (loop .out) (wordsOf colour) i 0 (omega (arith, words-long colour, loop .inv .0, c .before .before .loop-test .taken)) in
+    let step = store-next (loop .out) (wordsOf colour) i i 0 (omega (arith, words-long colour, loop .inv .0, c .before .before .loop-test .taken)) in
     (loop .inv .0, simp length-set (loop .inv .1), rw (value, ← step) (loop .inv .2))
 
 returns-2 : tie.Need-returns-2 Inv-loop μ-loop
@@ -43,7 +44,7 @@ returns-2 c =
     let args = c .before .before .before .before .args in
     let loop = c .before .loop in
     let fits = c .before .before .if1 .left in
-    let end = store-end (loop .out) (wordsOf (args .colour)) (loop .i) (omega (arith, words-long (args .colour), loop .inv .0, c .loop-test .left)) in
+    let end = store-end (loop .out) (wordsOf (args .colour)) (loop .i) (loop .i) (omega (arith, words-long (args .colour), loop .inv .0, c .loop-test .left)) in
     let whole = stored-whole (wordsOf (args .colour)) (args .out .now) (omega (arith, words-long (args .colour), loop .inv .0, fits)) in
     (sym (need-passes 16 _ (le-leb _ _ fits)), sym end ∙ loop .inv .2 ∙ whole)
 

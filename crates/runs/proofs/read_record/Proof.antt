@@ -5,8 +5,8 @@ use mathlib.Core.Path.{_≡_, refl, sym, _∙_}
 use borrow.Author.Needs.{needs}
 use lib.ListN.{length, drop, length-set}
 use lib.Seq.{sets}
+use Rattle.lists.proofs.Stored.{stored-whole, store-next, store-end}
 use Rattle.runs.specs.Runs.{runOf}
-use Rattle.runs.proofs.Outputs.{stored-whole, store-next, store-end}
 use Rattle.runs.proofs.Judging.{IsRecord, fine-is-record, length-run, step-at}
 use Rattle.runs.proofs.Answers.{read-refused, read-short, read-fits}
 use Rattle.runs.proofs.read_record.Statement.{statement}
@@ -43,7 +43,7 @@ loop-again c =
     let k : ℕ = loop .k in
     let is = loop .inv .0 in
     let value = step-at is k (c .before .loop-test .taken) in
-    let step = store-next (loop .run) (runOf (c .before .before .before .before .before .before .before .before .before .before .args .bytes .now)) k (omega (arith, length-run is)) in
+    let step = store-next (loop .run) (runOf (c .before .before .before .before .before .before .before .before .before .before .args .bytes .now)) k k 0 (omega (arith, length-run is)) in
     (is, simp length-set (loop .inv .1), rw (c .word .ensures, ← value, ← step) (loop .inv .2))
 
 returns-3 : tie.Need-returns-3 Inv-loop μ-loop
@@ -54,7 +54,7 @@ returns-3 c =
     let (answer, lent) = read-fits _ _ (args .run .now) _ found fits in
     let loop = c .before .loop in
     let steps = length-run (loop .inv .0) in
-    let end = store-end (loop .run) (runOf (args .bytes .now)) (loop .k) (omega (arith, c .loop-test .left)) in
+    let end = store-end (loop .run) (runOf (args .bytes .now)) (loop .k) (loop .k) (omega (arith, c .loop-test .left)) in
     let whole = stored-whole (runOf (args .bytes .now)) (args .run .now) (omega (arith, fits)) in
     (sym answer, sym end ∙ loop .inv .2 ∙ whole ∙ sym lent)
 
