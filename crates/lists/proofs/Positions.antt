@@ -3,7 +3,7 @@ use mathlib.Core.Path.{_≡_, refl, sym, _∙_, ap}
 use mathlib.Core.Option.{some}
 use mathlib.Core.List.{List, [], _∷_, _++_, map, append-assoc}
 use Prim.Native.Nat.{ℕ, zero, suc, _+_, _-_, _≤_, _<_, _*_}
-use lib.ListN.{getElem?, length, length-append}
+use lib.ListN.{getElem?, length, getD, length-append}
 use native.Mathlib.Decide.{decLe}
 use native.Mathlib.Nat.{not-suc-le-zero, le-of-suc-le-suc, add-zero, add-suc, suc-add, zero-add, zero-mul, lt-of-not-le}
 use native.Mathlib.Numerals.{add-one}
@@ -36,6 +36,12 @@ module _ {A B : Type 0} where
   pub spread-append : (f : A → List B) (xs ys : List A) → spread f (xs ++ ys) ≡ spread f xs ++ spread f ys
   spread-append f [] ys = refl
   spread-append f (x ∷ xs) ys = ap {B = List B} (λ z. f x ++ z) (spread-append f xs ys) ∙ sym (append-assoc (f x) (spread f xs) (spread f ys))
+
+-- what stands in the list that f gives for the c numbers from k on
+pub counted-at : {A : Type 0} (f : ℕ → A) (d : A) (k c i : ℕ) → i < c → getD (map f (count k c)) i d ≡ f (k + i)
+counted-at f d k zero i h = absurd (not-suc-le-zero h)
+counted-at f d k (suc c) zero h = rw add-zero
+counted-at f d k (suc c) (suc i) h = rw (add-suc, ← suc-add k i) (counted-at f d (suc k) c i (le-of-suc-le-suc h))
 
 -- ---- lists of one length, one after the other
 

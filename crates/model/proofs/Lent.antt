@@ -1,17 +1,18 @@
 -- Lent bytes and markings: written and read again they are themselves, and no rule makes a condition hold that is not there.
 use mathlib.Core.Path.{_≡_, refl, sym, _∙_, ap, subst, fun-ext}
 use mathlib.Core.Bool.{Bool, true, false}
-use mathlib.Core.List.{List, map}
-use Prim.Native.Nat.{ℕ, zero, suc, _+_, _≤_, _<_}
+use mathlib.Core.List.{List}
+use Prim.Native.Nat.{ℕ, zero, suc, _≤_, _<_}
 use lib.Dec.{T, eqb}
 use lib.ListN.{length, getD, length-map, List·getD-eq-default}
 use lib.Seq.{ext-getD}
 use native.Mathlib.Decide.{decLe}
-use native.Mathlib.Nat.{not-suc-le-zero, le-of-suc-le-suc, add-zero, add-suc, suc-add, zero-add, lt-of-not-le}
+use native.Mathlib.Nat.{zero-add, lt-of-not-le}
 use native.Mathlib.Omega.{arith}
 use Rattle.lists.specs.Lists.{mem, count}
 use Rattle.lists.proofs.Bools.{is-false}
 use Rattle.lists.proofs.Members.{length-count}
+use Rattle.lists.proofs.Positions.{counted-at}
 use Rattle.model.specs.Net.{Net, Sound, Marking, begin}
 use Rattle.model.specs.Lent.{bit, bytes, marking}
 
@@ -19,18 +20,13 @@ use Rattle.model.specs.Lent.{bit, bytes, marking}
 abbrev pub Tidy : ℕ → Marking → Type 0
 Tidy c m = (b : ℕ) → c ≤ b → m b ≡ false
 
-getD-count : (f : ℕ → ℕ) (k c i : ℕ) → i < c → getD (map f (count k c)) i 0 ≡ f (k + i)
-getD-count f k zero i h = absurd (not-suc-le-zero h)
-getD-count f k (suc c) zero h = rw add-zero
-getD-count f k (suc c) (suc i) h = rw (add-suc, ← suc-add k i) (getD-count f (suc k) c i (le-of-suc-le-suc h))
-
 pub length-bytes : (c : ℕ) (m : Marking) → length (bytes c m) ≡ c
 unfolding bytes
 length-bytes c m = length-map (count 0 c) (λ b. bit (m b)) ∙ length-count 0 c
 
 pub bytes-at : (c : ℕ) (m : Marking) (i : ℕ) → i < c → getD (bytes c m) i 0 ≡ bit (m i)
 unfolding bytes
-bytes-at c m i h = getD-count (λ b. bit (m b)) 0 c i h ∙ rw zero-add
+bytes-at c m i h = counted-at (λ b. bit (m b)) 0 0 c i h ∙ rw zero-add
 
 -- bytes are told by what each is
 pub bytes-are : (l : List ℕ) (c : ℕ) (m : Marking) → length l ≡ c → ((i : ℕ) → i < c → getD l i 0 ≡ bit (m i)) → l ≡ bytes c m

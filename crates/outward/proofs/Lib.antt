@@ -1,3 +1,3 @@
 -- The laws.
-pub mod Stored
+pub mod Markers
 pub mod Small

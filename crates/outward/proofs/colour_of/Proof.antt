@@ -7,7 +7,7 @@ use lib.Seq.{sets}
 use Rattle.lists.proofs.Stored.{store-next, store-end}
 use Rattle.refusal.specs.declared.Marker.the-variants.{Start}
 use Rattle.outward.specs.Words.{picksFor, colourFor}
-use Rattle.outward.proofs.Stored.{picks-long, pick-at}
+use Rattle.outward.proofs.Markers.{picks-long, pick-at}
 use borrow.Author.Needs.{needs}
 use Rattle.outward.proofs.colour_of.Statement.{statement}
 use Rattle.outward.proofs.colour_of.Tie as tie

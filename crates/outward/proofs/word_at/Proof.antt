@@ -2,7 +2,7 @@
 use mathlib.Core.Path.{sym}
 use lib.ListN.{List·getD-eq-default}
 use Rattle.outward.specs.Words.{startWord}
-use Rattle.outward.proofs.Stored.{read-with}
+use Rattle.outward.proofs.Markers.{read-with}
 use borrow.Author.Needs.{needs}
 use Rattle.outward.proofs.word_at.Statement.{statement}
 use Rattle.outward.proofs.word_at.Tie as tie

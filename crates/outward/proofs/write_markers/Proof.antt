@@ -9,7 +9,7 @@ use Rattle.lists.proofs.Stored.{stored-whole, store-next, store-end}
 use Rattle.refusal.specs.Answer.{fitting}
 use Rattle.refusal.proofs.Chain.{need-passes, need-refuses}
 use Rattle.outward.specs.Words.{wordOf, wordsOf}
-use Rattle.outward.proofs.Stored.{words-long, word-here}
+use Rattle.outward.proofs.Markers.{words-long, word-here}
 use borrow.Author.Needs.{needs}
 use Rattle.outward.proofs.write_markers.Statement.{statement}
 use Rattle.outward.proofs.write_markers.Tie as tie

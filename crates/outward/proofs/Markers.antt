@@ -1,4 +1,4 @@
--- What a loop stores from the first element on, and the markers of a colour one by one.
+-- The markers of a colour, from numbers and as numbers, one by one.
 use Prim.Native.Nat.{ℕ, zero, suc, _+_, _-_, _<_}
 use native.Mathlib.Nat.{not-suc-le-zero, le-of-suc-le-suc, zero-add, add-zero, add-suc, suc-add}
 use native.Mathlib.Omega.{arith}
@@ -7,6 +7,7 @@ use mathlib.Core.List.{List, [], _∷_, map}
 use lib.ListN.{length, getD, length-map}
 use Rattle.lists.specs.Lists.{count}
 use Rattle.lists.proofs.Members.{length-count}
+use Rattle.lists.proofs.Positions.{counted-at}
 use Rattle.refusal.specs.declared.Marker.the-variants.{Start}
 use Rattle.events.specs.declared.Colour.{Colour}
 use Rattle.events.specs.Colours.{markerAt, colourOf}
@@ -18,11 +19,6 @@ module _ {A : Type 0} where
   read-with [] i a b h = absurd (not-suc-le-zero h)
   read-with (x ∷ l) zero a b h = refl
   read-with (x ∷ l) (suc i) a b h = read-with l i a b (le-of-suc-le-suc h)
-
-  counted-at : (f : ℕ → A) (d : A) (k c i : ℕ) → i < c → getD (map f (count k c)) i d ≡ f (k + i)
-  counted-at f d k zero i h = absurd (not-suc-le-zero h)
-  counted-at f d k (suc c) zero h = rw add-zero
-  counted-at f d k (suc c) (suc i) h = rw (add-suc, ← suc-add k i) (counted-at f d (suc k) c i (le-of-suc-le-suc h))
 
   mapped-at : {B : Type 0} (g : B → A) (f : ℕ → B) (d : A) (k c i : ℕ) → i < c → getD (map g (map f (count k c))) i d ≡ g (f (k + i))
   mapped-at g f d k zero i h = absurd (not-suc-le-zero h)
