@@ -1,5 +1,5 @@
 -- A walk along a run, step by step: the state that the model is in after the steps so far, and what of it is kept.
-use Prim.Native.Nat.{ℕ, zero, suc, _+_, _≤_, _<_}
+use Prim.Native.Nat.{ℕ, suc, _+_, _≤_, _<_}
 use native.Mathlib.Omega.{arith}
 use native.Mathlib.Numerals.{add-one}
 use native.Mathlib.Decide.{ℕ-discrete}
@@ -13,6 +13,7 @@ use lib.Seq.{drop-cons, getD-set-same, getD-set-other}
 use borrow.Author.Tests.{eq-eqb, ne-eqb}
 use Rattle.lists.specs.Lists.{mem}
 use Rattle.lists.proofs.Bools.{T-of, not-true, and-both}
+use Rattle.lists.proofs.Places.{replicate-at}
 use Rattle.model.specs.Net.{Net, begin, can}
 use Rattle.model.specs.Runs.{runs, Marker, atStart, byEvent, State, marker, orElse, opening, step, after}
 use Rattle.model.specs.Across.{marks, earliest, repeated}
@@ -24,7 +25,7 @@ use Rattle.firsts.specs.declared.Slot.{Slot}
 use Rattle.firsts.specs.declared.Repeat.{Repeat}
 use Rattle.firsts.specs.declared.Repeat.the-variants.{Never, At}
 use Rattle.firsts.specs.declared.Walked.{Walked}
-use Rattle.firsts.specs.Firsts.{firstAt, noSlots, repeatOf, sooner}
+use Rattle.firsts.specs.Firsts.{firstOf, firstAt, noSlots, repeatOf, sooner}
 use Rattle.firsts.specs.Walks.{Tells, Occurred, Walks}
 
 -- the repeat that was met, else the one that is to come
@@ -47,17 +48,7 @@ pub record Along (n : Net) (r : List ℕ) (k : ℕ) (repeat : Repeat) (slots : L
 
 pub none-set : (b : ℕ) → firstAt noSlots b ≡ none
 unfolding noSlots
-none-set b = go 256 b
-  where
-    go : (c b : ℕ) → firstAt (replicate c (record { 0 = Unset })) b ≡ none
-    go zero b = refl
-    go (suc c) zero = refl
-    go (suc c) (suc b) = go c b
-
-none-seen : (c e : ℕ) → eqb (getD (replicate c 0) e 0) 1 ≡ false
-none-seen zero e = refl
-none-seen (suc c) zero = refl
-none-seen (suc c) (suc e) = none-seen c e
+none-set b = ap (λ (x : Slot). firstOf (x .0)) (replicate-at {A = Slot} 256 b (record { 0 = Unset }))
 
 pub along-start : (n : Net) (r : List ℕ) (slots : List Slot) (seen : List ℕ) → T (runs n (begin n) r) → length slots ≡ 256
     → ((b : ℕ) → b < 256 → firstAt slots b ≡ marker (n .persistent b) (mem b (n .start)) atStart) → seen ≡ replicate 256 0 → Along n r 0 Never slots seen
@@ -70,7 +61,7 @@ along-start n r slots seen t l f z =
       plays = t;
       reached = reached-opening n;
       firsts = record { size = l; each = f };
-      seens = record { size = ap length z ∙ length-replicate {A = ℕ} 256 0; each = λ e h. ap (λ (x : List ℕ). eqb (getD x e 0) 1) z ∙ none-seen 256 e };
+      seens = record { size = ap length z ∙ length-replicate {A = ℕ} 256 0; each = λ e h. ap (λ (x : List ℕ). eqb (getD x e 0) 1) z ∙ ap (λ (x : ℕ). eqb x 1) (replicate-at {A = ℕ} 256 e 0) };
       repeats = refl;
     }
 

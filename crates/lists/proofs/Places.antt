@@ -7,7 +7,7 @@ use mathlib.Core.List.{List, [], _∷_, List·Memᴰ·head, List·Memᴰ·tail, 
 use Prim.Native.Nat.{ℕ, zero, suc, _+_, _≤_, _<_, zero-le, suc-le-suc}
 use borrow.Author.Tests.{ne-eqb, eq-eqb, le-leb}
 use lib.Dec.{T, eqb, eqb→eq, eqb-refl, leb}
-use lib.ListN.{getElem?, length, getD}
+use lib.ListN.{getElem?, length, getD, replicate}
 use native.Mathlib.Nat.{not-suc-le-zero, le-of-suc-le-suc, add-zero, add-suc, suc-add, zero-add}
 use native.Mathlib.Omega.{arith}
 use Rattle.lists.specs.Lists.{mem, ascending-from, ascending, index, places-from, _∈_}
@@ -40,6 +40,12 @@ module _ {A : Type 0} where
   at-getD [] k d e = absurd (let z : _≡_ {A = ℕ} 0 1 = cc in omega arith)
   at-getD (y ∷ xs) zero d e = cc
   at-getD (y ∷ xs) (suc k) d e = at-getD xs k d e
+
+  -- one thing all along is read at every place, past the end too where it is the default
+  pub replicate-at : (c i : ℕ) (x : A) → getD (replicate c x) i x ≡ x
+  replicate-at zero i x = refl
+  replicate-at (suc c) zero x = refl
+  replicate-at (suc c) (suc i) x = replicate-at c i x
 
   -- a member stands at the first place where a test that knows it passes
   pub index-at : (t : A → Bool) (x : A) → T (t x) → ((y : A) → T (t y) → x ≡ y) → (xs : List A) → x ∈ xs → getElem? xs (index t xs) ≡ some x

@@ -4,7 +4,7 @@ use mathlib.Core.Bool.{Bool, true, false}
 use mathlib.Core.List.{List}
 use Prim.Native.Nat.{ℕ, zero, suc, _≤_, _<_}
 use lib.Dec.{T, eqb}
-use lib.ListN.{length, getD, length-map, List·getD-eq-default}
+use lib.ListN.{length, getD, replicate, length-map, length-replicate, List·getD-eq-default}
 use lib.Seq.{ext-getD}
 use native.Mathlib.Decide.{decLe}
 use native.Mathlib.Nat.{zero-add, lt-of-not-le}
@@ -13,6 +13,7 @@ use Rattle.lists.specs.Lists.{mem, count}
 use Rattle.lists.proofs.Bools.{is-false}
 use Rattle.lists.proofs.Members.{length-count}
 use Rattle.lists.proofs.Positions.{counted-at}
+use Rattle.lists.proofs.Places.{replicate-at}
 use Rattle.model.specs.Net.{Net, Sound, Marking, begin}
 use Rattle.model.specs.Lent.{bit, bytes, marking}
 
@@ -55,6 +56,16 @@ bytes-marking l h = bytes-are l (length l) (marking l) refl (λ i p. go (getD l 
     go zero p = refl
     go (suc zero) p = refl
     go (suc (suc x)) p = absurd (omega arith)
+
+-- bytes that are all 0 say that nothing holds
+pub zeros-say : (l : List ℕ) (c : ℕ) → l ≡ replicate c 0 → marking l ≡ (λ b. false)
+unfolding marking
+zeros-say l c q = fun-ext (λ b. ap (λ (x : ℕ). eqb x 1) (ap (λ (x : List ℕ). getD x b 0) q ∙ replicate-at c b 0))
+
+pub zeros-lent : (l : List ℕ) (c : ℕ) → l ≡ replicate c 0 → l ≡ bytes c (marking l)
+zeros-lent l c q =
+    bytes-are l c (marking l) (ap (λ (x : List ℕ). length x) q ∙ length-replicate c 0)
+    (λ i h. ap (λ (x : List ℕ). getD x i 0) q ∙ replicate-at c i 0 ∙ sym (ap (λ (m : Marking). bit (m i)) (zeros-say l c q)))
 
 pub tidy-marking : (l : List ℕ) → Tidy (length l) (marking l)
 unfolding marking

@@ -1,14 +1,14 @@
 -- An unfolded run walked from its start to its end, or to the step that stops it.
-use Prim.Native.Nat.{ℕ, zero, suc, _+_, _≤_, _<_}
+use Prim.Native.Nat.{ℕ, suc, _+_, _≤_, _<_}
 use native.Mathlib.Omega.{arith}
 use native.Mathlib.Nat.{zero-add}
-use mathlib.Core.Path.{_≡_, refl, sym, ap, _∙_, subst, fun-ext}
-use mathlib.Core.Bool.{false}
+use mathlib.Core.Path.{_≡_, refl, sym, ap, _∙_, subst}
 use mathlib.Core.Option.{Option, none, some}
 use mathlib.Core.List.{List, []}
-use lib.Dec.{T, eqb}
+use lib.Dec.{T}
 use lib.ListN.{length, getD, take, drop, replicate, length-replicate}
 use lib.Seq.{take-all, split-at, length-take-le}
+use Rattle.lists.proofs.Places.{replicate-at}
 use Rattle.words.specs.Words.{words}
 use Rattle.records.specs.Records.{flags, prePart, postPart}
 use Rattle.model.specs.Net.{Net, begin, fire, Stop, stopNumber, stopping}
@@ -16,7 +16,7 @@ use Rattle.model.specs.Runs.{opening, after, runs, replay}
 use Rattle.model.specs.Unfolding.{basic}
 use Rattle.model.specs.Across.{stopped, stuck, mostSteps, readBack}
 use Rattle.model.specs.Lent.{bytes, marking}
-use Rattle.model.proofs.Lent.{marking-bytes, bytes-marking, tidy-begin, length-bytes}
+use Rattle.model.proofs.Lent.{marking-bytes, bytes-marking, tidy-begin, length-bytes, zeros-say}
 use Rattle.model.proofs.Replay.{stops-replay}
 use Rattle.model.proofs.Answers.{stuck-none}
 use Rattle.refusal.specs.declared.Judged.{Judged}
@@ -47,22 +47,13 @@ fire-written s l at h f pre post isF isPre isPost =
 
 -- ---- the start
 
-zeros-at : (c i : ℕ) → _≡_ {A = ℕ} (getD (replicate c 0) i 0) 0
-zeros-at zero i = refl
-zeros-at (suc c) zero = refl
-zeros-at (suc c) (suc i) = zeros-at c i
-
-none-seen : (x : ℕ) → marking (replicate 256 0) x ≡ false
-unfolding marking
-none-seen x = ap (λ (y : ℕ). eqb y 1) (zeros-at 256 x)
-
 -- where nothing is kept, every place is the start's
 kept-none : (n : Net) (places kept : List ℕ) → places ≡ replicate 256 0 → kept ≡ replicate 256 0 → Kept n places kept
 kept-none n places kept p q =
     record {
       size = ap length p ∙ length-replicate {A = ℕ} 256 0;
       room = ap length q ∙ length-replicate {A = ℕ} 256 0;
-      each = λ b h. rw (ap (λ (l : List ℕ). getD l b 0) p ∙ zeros-at 256 b) (marker-first n b);
+      each = λ b h. rw (ap (λ (l : List ℕ). getD l b 0) p ∙ replicate-at {A = ℕ} 256 b 0) (marker-first n b);
     }
 
 pub walked-start : (s : List ℕ) (events : ℕ) → judgeOf s ≡ Fine events → (w state seen places kept : List ℕ) → length w ≤ mostSteps → state ≡ bytes 256 (begin (netOf s))
@@ -77,9 +68,9 @@ walked-start s events j w state seen places kept short isState isSeen isPlaces i
       lents = rw isState (lent-bytes 256 (begin (netOf s)));
       long = ap length isState ∙ length-bytes 256 (begin (netOf s));
       here = ap marking isState ∙ marking-bytes 256 (begin (netOf s)) (λ x h. tidy-begin (netOf s) (limits .sound) x (omega (arith, limits .few-conditions)));
-      noted = rw isSeen (bytes-marking (replicate 256 0) (λ i p. rw (zeros-at 256 i) (omega arith)));
+      noted = rw isSeen (bytes-marking (replicate 256 0) (λ i p. rw (replicate-at {A = ℕ} 256 i 0) (omega arith)));
       wide = ap length isSeen ∙ length-replicate {A = ℕ} 256 0;
-      occurred = ap marking isSeen ∙ fun-ext none-seen;
+      occurred = zeros-say seen 256 isSeen;
       held = kept-none (netOf s) places kept isPlaces isKept;
     }
 

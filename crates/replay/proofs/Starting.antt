@@ -1,5 +1,5 @@
 -- A lent marking copied over bytes that are all 0 says the same, so a replay from it can start there.
-use Prim.Native.Nat.{ℕ, zero, suc, _+_, _-_, _≤_}
+use Prim.Native.Nat.{ℕ, suc, _+_, _-_, _≤_}
 use native.Mathlib.Nat.{lt-of-not-le}
 use native.Mathlib.Decide.{decLe}
 use native.Mathlib.Omega.{arith}
@@ -9,6 +9,7 @@ use mathlib.Core.List.{List, _++_}
 use lib.Dec.{eqb}
 use lib.ListN.{length, getD, take, drop, replicate, length-append, length-drop, length-replicate, List·getD-append, List·getD-eq-default}
 use lib.Seq.{take-length, getD-append-add, getD-drop, length-take-le}
+use Rattle.lists.proofs.Places.{replicate-at}
 use Rattle.model.specs.Net.{Marking}
 use Rattle.refusal.specs.declared.Judged.{Judged}
 use Rattle.refusal.specs.declared.Judged.the-variants.{Fine}
@@ -22,11 +23,6 @@ use Rattle.played.specs.Played.{Plays}
 use Rattle.step.proofs.Bytes.{lent-of, lent-at}
 use Rattle.game.proofs.Marked.{on-fine}
 
-zeros-at : (c i : ℕ) → _≡_ {A = ℕ} (getD (replicate c 0) i 0) 0
-zeros-at zero i = refl
-zeros-at (suc c) zero = refl
-zeros-at (suc c) (suc i) = zeros-at c i
-
 module _ (m : List ℕ) (c : ℕ) (l : List ℕ) (copied : l ≡ take (length m) m ++ drop (length m) (replicate c 0)) where
   same-at : (b : ℕ) → getD l b 0 ≡ getD m b 0
   same-at b = ap (λ (x : List ℕ). getD x b 0) (copied ∙ ap (λ (x : List ℕ). x ++ drop (length m) (replicate c 0)) (take-length m)) ∙ go (decLe (length m) b)
@@ -37,7 +33,7 @@ module _ (m : List ℕ) (c : ℕ) (l : List ℕ) (copied : l ≡ take (length m)
           ap (λ (x : ℕ). getD (m ++ drop (length m) (replicate c 0)) x 0) (sym e)
           ∙ getD-append-add m (drop (length m) (replicate c 0)) (b - length m) 0
           ∙ getD-drop (length m) (replicate c 0) (b - length m) 0
-          ∙ zeros-at c (length m + (b - length m)) ∙ sym (List·getD-eq-default m 0 h)
+          ∙ replicate-at c (length m + (b - length m)) 0 ∙ sym (List·getD-eq-default m 0 h)
       go (no h) = List·getD-append m (drop (length m) (replicate c 0)) 0 b (lt-of-not-le h)
 
   copied-marking : marking l ≡ marking m

@@ -1,16 +1,15 @@
 -- The start of the unfolding: what the writer of copies leaves at the start, and how the call answers.
-use Prim.Native.Nat.{ℕ, zero, suc, _≤_, _<_}
+use Prim.Native.Nat.{ℕ, _≤_, _<_}
 use native.Mathlib.Omega.{arith}
-use mathlib.Core.Path.{_≡_, refl, sym, ap, ap₂, _∙_, fun-ext}
-use mathlib.Core.Bool.{Bool, false}
+use mathlib.Core.Path.{_≡_, sym, ap, ap₂, _∙_}
+use mathlib.Core.Bool.{Bool}
 use mathlib.Core.List.{List, _++_}
-use lib.Dec.{eqb}
-use lib.ListN.{length, getD, drop, replicate, length-replicate}
+use lib.ListN.{length, getD, drop, replicate}
 use borrow.Author.Tests.{le-leb, lt-leb}
 use Rattle.model.specs.Net.{Marking, begin}
-use Rattle.model.specs.Lent.{bit, bytes, marking}
+use Rattle.model.specs.Lent.{bytes, marking}
 use Rattle.model.specs.Unfolding.{basic}
-use Rattle.model.proofs.Lent.{length-bytes, bytes-are, marking-bytes, tidy-begin}
+use Rattle.model.proofs.Lent.{length-bytes, marking-bytes, tidy-begin, zeros-say}
 use Rattle.model.proofs.Counts.{count-conditions}
 use Rattle.refusal.specs.declared.Refusal.{Refusal}
 use Rattle.refusal.specs.declared.Judged.{Judged}
@@ -28,22 +27,6 @@ use Rattle.copies.specs.Copies.{copiesOf}
 use Rattle.copies.specs.Writing.{Roomy, Prepared}
 use Rattle.copies.proofs.Ends.{copies-begin}
 use Rattle.starting.specs.Calls.{unfoldedStartOf, unfoldedStartedOf}
-
--- ---- no event has occurred
-
-zeros-at : (c i : ℕ) → _≡_ {A = ℕ} (getD (replicate c 0) i 0) 0
-zeros-at zero i = refl
-zeros-at (suc c) zero = refl
-zeros-at (suc c) (suc i) = zeros-at c i
-
-zeros-say : (l : List ℕ) (c : ℕ) → l ≡ replicate c 0 → marking l ≡ (λ e. false)
-unfolding marking
-zeros-say l c q = fun-ext (λ e. ap (λ (x : ℕ). eqb x 1) (ap (λ (x : List ℕ). getD x e 0) q ∙ zeros-at c e))
-
-pub zeros-lent : (l : List ℕ) (c : ℕ) → l ≡ replicate c 0 → l ≡ bytes c (marking l)
-zeros-lent l c q =
-    bytes-are l c (marking l) (ap (λ (x : List ℕ). length x) q ∙ length-replicate c 0)
-    (λ i h. ap (λ (x : List ℕ). getD x i 0) q ∙ zeros-at c i ∙ sym (ap (λ (m : Marking). bit (m i)) (zeros-say l c q)))
 
 -- ---- what holds is what held at the start
 

@@ -1,8 +1,9 @@
 -- `starting::write_start` meets its contract.
 use mathlib.Core.Path.{refl}
 use lib.ListN.{length}
+use Rattle.model.proofs.Lent.{zeros-lent}
 use Rattle.layout.proofs.Limits.{events-are-all}
-use Rattle.starting.proofs.Starts.{zeros-lent, start-prepared, start-written}
+use Rattle.starting.proofs.Starts.{start-prepared, start-written}
 use borrow.Author.Needs.{needs}
 use Rattle.starting.proofs.write_start.Statement.{statement}
 use Rattle.starting.proofs.write_start.Tie as tie
