@@ -19,7 +19,7 @@ use Rattle.model.specs.Net.{Net, begin, free, firstStop}
 use Rattle.model.specs.Runs.{Marker, byEvent}
 use Rattle.model.specs.Unfolding.{sameMarker, users}
 use Rattle.model.specs.Lent.{marking}
-use Rattle.model.proofs.Lent.{marking-bytes, tidy-begin}
+use Rattle.model.proofs.Lent.{begun-marking}
 use Rattle.model.proofs.Unfolded.{event-uses}
 use Rattle.model.proofs.Counts.{distinct-users}
 use Rattle.table.specs.Decoded.{netOf}
@@ -98,7 +98,7 @@ module _ (s us : List ℕ) (at e : ℕ) (begun places kept : List ℕ) (d : Deci
   begun-is b =
       let limits = within-limits s e (d .event) in
       ap (λ (l : List ℕ). marking l b) (d .start)
-      ∙ ap (λ (m : ℕ → Bool). m b) (marking-bytes 256 (begin n) (λ x h. tidy-begin n (limits .sound) x (omega (arith, limits .few-conditions))))
+      ∙ ap (λ (m : ℕ → Bool). m b) (begun-marking n (limits .sound) 256 (limits .few-conditions))
 
   ready-same : (b : ℕ) → b < 256 → readyAt s state begun seen places kept b ≡ ready n (marking state) (marking seen) (markerAt n places) b
   ready-same b h =

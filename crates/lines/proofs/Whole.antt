@@ -15,8 +15,9 @@ use Rattle.model.specs.Runs.{runs, end}
 use Rattle.model.specs.Unfolding.{basic}
 use Rattle.model.specs.Lent.{bytes, marking}
 use Rattle.model.proofs.Firing.{runs-first, runs-rest, can-none}
-use Rattle.model.proofs.Lent.{length-bytes, bytes-at, bit-one, marking-bytes, tidy-begin}
+use Rattle.model.proofs.Lent.{length-bytes, bytes-at, bit-one, begun-marking}
 use Rattle.played.proofs.Playing.{fired-marking}
+use Rattle.replay.proofs.Playing.{fired-marking}
 use Rattle.listing.specs.Text.{newline, endWords, commas, holding, startLine, stepLine, endLine}
 use Rattle.listing.specs.Calls.{heldIn, firstIn, nextOf, firstPiece, morePiece}
 use Rattle.listing.specs.Whole.{stepLines}
@@ -146,7 +147,7 @@ module _ (n : Net) (r w end : List ℕ) where
     unfolding restOf
     start-text m t ended =
         let l : List ℕ = bytes (n .conditions) (begin n) in
-        let told : marking l ≡ begin n = marking-bytes (n .conditions) (begin n) (tidy-begin n sound) in
+        let told : marking l ≡ begin n = begun-marking n sound (n .conditions) (omega arith) in
         let enough : leftAt (length r) end Start ≡ suc (length r + length end + 4) = omega arith in
         ap (λ (f : ℕ). textFrom f n r w end l Start) enough
         ∙ start-on (length r + length end + 4) l

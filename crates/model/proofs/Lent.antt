@@ -75,6 +75,10 @@ tidy-marking l b h = ap (λ (x : ℕ). eqb x 1) (List·getD-eq-default l 0 h)
 pub tidy-mem : (c : ℕ) (l : List ℕ) → ((b : ℕ) → T (mem b l) → b < c) → Tidy c (λ b. mem b l)
 tidy-mem c l h b le = is-false (mem b l) (λ t. let x = h b t in omega arith)
 
-pub tidy-begin : (n : Net) → Sound n → Tidy (n .conditions) (begin n)
+tidy-begin : (n : Net) → Sound n → Tidy (n .conditions) (begin n)
 unfolding begin
 tidy-begin n s = tidy-mem (n .conditions) (n .start) (s .start-in)
+
+-- as many bytes as there are conditions, or more, keep the start
+pub begun-marking : (n : Net) → Sound n → (c : ℕ) → n .conditions ≤ c → marking (bytes c (begin n)) ≡ begin n
+begun-marking n s c h = marking-bytes c (begin n) (λ b p. tidy-begin n s b (omega arith))

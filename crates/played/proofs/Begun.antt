@@ -4,9 +4,7 @@ use native.Mathlib.Omega.{arith}
 use mathlib.Core.Path.{_≡_, ap, _∙_, subst}
 use mathlib.Core.List.{List}
 use lib.ListN.{length}
-use Rattle.lists.specs.Lists.{mem}
-use Rattle.lists.proofs.Bools.{is-false}
-use Rattle.model.specs.Net.{Net, Sound, Marking, begin}
+use Rattle.model.specs.Net.{Marking, begin}
 use Rattle.refusal.specs.declared.Judged.{Judged}
 use Rattle.refusal.specs.declared.Judged.the-variants.{Fine}
 use Rattle.table.specs.Walk.{judgeOf}
@@ -16,14 +14,9 @@ use Rattle.records.specs.Records.{conditions}
 use Rattle.model.specs.Lent.{bytes, marking}
 use Rattle.step.specs.Lent.{Lent}
 use Rattle.played.specs.Played.{Plays}
-use Rattle.model.proofs.Lent.{length-bytes, marking-bytes}
+use Rattle.model.proofs.Lent.{length-bytes, begun-marking}
 use Rattle.step.proofs.Bytes.{lent-bytes}
 use Rattle.game.proofs.Marked.{conditions-are}
-
-begun-marking : (n : Net) → Sound n → (c : ℕ) → n .conditions ≤ c → marking (bytes c (begin n)) ≡ begin n
-unfolding begin
-begun-marking n s c h =
-    marking-bytes c (λ b. mem b (n .start)) (λ b p. is-false (mem b (n .start)) (λ t. let q = s .start-in b t in omega arith))
 
 module _ (s : List ℕ) (n : ℕ) (j : judgeOf s ≡ Fine n) (l : List ℕ) (begun : l ≡ bytes 256 (begin (netOf s))) where
   few : netOf s .conditions ≤ 256

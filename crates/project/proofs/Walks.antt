@@ -16,7 +16,7 @@ use Rattle.model.specs.Runs.{opening, after, runs, replay}
 use Rattle.model.specs.Unfolding.{basic}
 use Rattle.model.specs.Across.{stopped, stuck, mostSteps, readBack}
 use Rattle.model.specs.Lent.{bytes, marking}
-use Rattle.model.proofs.Lent.{marking-bytes, bytes-marking, tidy-begin, length-bytes, zeros-say}
+use Rattle.model.proofs.Lent.{bytes-marking, length-bytes, zeros-say, begun-marking}
 use Rattle.model.proofs.Replay.{stops-replay}
 use Rattle.model.proofs.Answers.{stuck-none}
 use Rattle.refusal.specs.declared.Judged.{Judged}
@@ -67,7 +67,7 @@ walked-start s events j w state seen places kept short isState isSeen isPlaces i
       plays = tt;
       lents = rw isState (lent-bytes 256 (begin (netOf s)));
       long = ap length isState ∙ length-bytes 256 (begin (netOf s));
-      here = ap marking isState ∙ marking-bytes 256 (begin (netOf s)) (λ x h. tidy-begin (netOf s) (limits .sound) x (omega (arith, limits .few-conditions)));
+      here = ap marking isState ∙ begun-marking (netOf s) (limits .sound) 256 (limits .few-conditions);
       noted = rw isSeen (bytes-marking (replicate 256 0) (λ i p. rw (replicate-at {A = ℕ} 256 i 0) (omega arith)));
       wide = ap length isSeen ∙ length-replicate {A = ℕ} 256 0;
       occurred = zeros-say seen 256 isSeen;

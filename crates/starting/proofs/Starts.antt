@@ -9,7 +9,7 @@ use borrow.Author.Tests.{le-leb, lt-leb}
 use Rattle.model.specs.Net.{Marking, begin}
 use Rattle.model.specs.Lent.{bytes, marking}
 use Rattle.model.specs.Unfolding.{basic}
-use Rattle.model.proofs.Lent.{length-bytes, marking-bytes, tidy-begin, zeros-say}
+use Rattle.model.proofs.Lent.{length-bytes, zeros-say, begun-marking}
 use Rattle.model.proofs.Counts.{count-conditions}
 use Rattle.refusal.specs.declared.Refusal.{Refusal}
 use Rattle.refusal.specs.declared.Judged.{Judged}
@@ -34,7 +34,7 @@ module _ (s : List ℕ) (k : ℕ) (j : judgeOf s ≡ Fine k) (state : List ℕ) 
   begun : marking state ≡ begin (netOf s)
   begun =
       let t = tabled s k j in
-      ap marking e ∙ marking-bytes 256 (begin (netOf s)) (λ b h. tidy-begin (netOf s) (t .sound) b (omega (arith, t .few-conditions)))
+      ap marking e ∙ begun-marking (netOf s) (t .sound) 256 (t .few-conditions)
 
   pub start-prepared : (us bases : List ℕ) (room : ℕ) → Roomy s us bases room → Prepared s us bases state state room
   start-prepared us bases room g = record { roomy = g; started = e; lent = e ∙ ap (λ (m : Marking). bytes 256 m) (sym begun) }
