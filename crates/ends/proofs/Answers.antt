@@ -2,13 +2,14 @@
 use Prim.Native.Nat.{ℕ, _-_, _≤_}
 use native.Mathlib.Omega.{arith}
 use mathlib.Core.Path.{_≡_, refl, sym, ap, _∙_, fun-ext}
-use mathlib.Core.Bool.{Bool, true, false, _||_}
+use mathlib.Core.Bool.{Bool}
 use mathlib.Core.Option.{Option, none, some}
 use mathlib.Core.List.{List, _++_}
 use lib.Dec.{leb}
 use lib.ListN.{length, take, drop, length-map, length-append}
 use lib.Seq.{take-append-seam, take-all}
 use Rattle.lists.specs.Lists.{mem}
+use Rattle.lists.proofs.Bools.{or-none}
 use Rattle.model.specs.Net.{Net, Sound, Marking, begin}
 use Rattle.model.specs.Lent.{bytes, marking}
 use Rattle.model.specs.Runs.{end, opening, after, replay}
@@ -37,10 +38,6 @@ use Rattle.ends.proofs.Written.{fitting-room}
 use Rattle.ends.specs.Calls.{unfoldedReplayOf, unfoldedReplayedOf, liftEndOf, liftEndedOf}
 
 -- ---- the marking that an unfolded run ends in
-
-or-none : (a : Bool) → (a || false) ≡ a
-or-none true = refl
-or-none false = refl
 
 module _ (n : Net) (sound : Sound n) (w state seen : List ℕ) (p : Judged) (t : Replayed n w p state seen) (x : ℕ) (e : p ≡ Fine x) where
   whole : take (length w) w ≡ w

@@ -59,6 +59,10 @@ pub and-both : (a b : Bool) → T a → T b → T (a && b)
 and-both true b s t = t
 and-both false b s t = s
 
+pub and-true : (a b : Bool) → (a && b) ≡ true → (a ≡ true) × (b ≡ true)
+and-true true b e = (refl, e)
+and-true false b e = absurd (subst T (sym e) tt)
+
 pub and4 : (a b c d : Bool) → T (a && b && c && d) → T a × T b × T c × T d
 and4 true true true d t = (tt, tt, tt, t)
 and4 true true false d t = absurd t

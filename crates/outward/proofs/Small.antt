@@ -2,11 +2,12 @@
 use Prim.Native.Nat.{ℕ, _≤_, _<_}
 use native.Mathlib.Omega.{arith}
 use mathlib.Core.Path.{_≡_, refl}
-use mathlib.Core.Bool.{Bool, true, false, _&&_}
+use mathlib.Core.Bool.{Bool, true, false}
 use mathlib.Core.List.{List}
 use mathlib.Core.Option.{Option, none, some}
 use borrow.Author.Tests.{leb-true, ltb-true}
 use lib.Dec.{leb, ltb}
+use Rattle.lists.proofs.Bools.{and-true}
 use Rattle.model.specs.Net.{Net}
 use Rattle.model.specs.Unfolding.{UnfoldedCondition, basic}
 use Rattle.model.specs.Numbering.{conditionCount, eventCount, conditionNumber, number}
@@ -26,10 +27,6 @@ use Rattle.condition_numbers.specs.Answers.{numbered}
 use Rattle.outward.specs.Words.{conditionFor}
 
 -- a net that is unfolded is within the limit
-both : (a b : Bool) → (a && b) ≡ true → (a ≡ true) × (b ≡ true)
-both true b e = (refl, e)
-both false b e = absurd (let z : _≡_ {A = ℕ} 0 1 = cc in omega arith)
-
 within-none : (o : Option ℕ) (w : Bool) → idleOrOver o w ≡ none → w ≡ true
 within-none (some e) w q = absurd (let z : _≡_ {A = ℕ} 0 1 = cc in omega arith)
 within-none none true q = refl
@@ -38,7 +35,7 @@ within-none none false q = absurd (let z : _≡_ {A = ℕ} 0 1 = cc in omega ari
 limits : (n : Net) → unfoldingRefused n ≡ none → (conditionCount n ≤ mostUnfolded) × (eventCount n ≤ mostUnfolded)
 unfolding unfoldingRefused within
 limits n q =
-    let b = both (leb (conditionCount n) mostUnfolded) (leb (eventCount n) mostUnfolded) (within-none (lowestIdle n) (within n) q) in
+    let b = and-true (leb (conditionCount n) mostUnfolded) (leb (eventCount n) mostUnfolded) (within-none (lowestIdle n) (within n) q) in
     (leb-true (conditionCount n) mostUnfolded (b .0), leb-true (eventCount n) mostUnfolded (b .1))
 
 -- the value of a call's own answer counts only where the table is unfolded

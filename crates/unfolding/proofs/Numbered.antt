@@ -3,12 +3,12 @@ use Prim.Native.Nat.{ℕ, suc, _+_, _<_}
 use native.Mathlib.Omega.{arith}
 use mathlib.Core.Path.{_≡_, refl, sym, subst}
 use mathlib.Core.List.{List, [], _∷_, map, List·Memᴰ·head, List·Memᴰ·tail}
-use mathlib.Core.Bool.{Bool, true, false, _&&_, cond}
+use mathlib.Core.Bool.{Bool, true, false, cond}
 use lib.Dec.{T, ltb, lt→ltb}
 use lib.ListN.{length}
 use borrow.Author.Tests.{lt-ltb, ltb-true}
 use Rattle.lists.specs.Lists.{index, sum, _∈_}
-use Rattle.lists.proofs.Bools.{T-of, and-both}
+use Rattle.lists.proofs.Bools.{T-of, and-both, and-true}
 use Rattle.lists.proofs.Places.{at-lt, at-getD}
 use Rattle.lists.proofs.Products.{place-below}
 use Rattle.model.specs.Net.{Net}
@@ -45,17 +45,13 @@ marks-each (ms ∷ mss) (m ∷ c) h =
 
 -- ---- a place among the colours
 
-both : (a b : Bool) → (a && b) ≡ true → (a ≡ true) × (b ≡ true)
-both true b e = (refl, e)
-both false b e = absurd (let z : _≡_ {A = ℕ} 0 1 = cc in omega arith)
-
 -- it is below their number
 pub radix-below : (mss : List (List Marker)) (c : List Marker) → allMark mss c ≡ true → radix mss c < ways mss
 radix-below [] [] t = omega arith
 radix-below [] (m ∷ c) t = absurd (let z : _≡_ {A = ℕ} 0 1 = cc in omega arith)
 radix-below (ms ∷ mss) [] t = absurd (let z : _≡_ {A = ℕ} 0 1 = cc in omega arith)
 radix-below (ms ∷ mss) (m ∷ c) t =
-    let b = both (ltb (index (sameMarker m) ms) (length ms)) (allMark mss c) t in
+    let b = and-true (ltb (index (sameMarker m) ms) (length ms)) (allMark mss c) t in
     let low = ltb-true (index (sameMarker m) ms) (length ms) (b .0) in
     place-below (index (sameMarker m) ms) (length ms) (ways mss) (radix mss c) low (radix-below mss c (b .1))
 
