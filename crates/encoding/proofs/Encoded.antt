@@ -15,7 +15,7 @@ use Rattle.lists.proofs.Tests.{fits-of}
 use Rattle.model.specs.Net.{Net, Marking}
 use Rattle.model.specs.Lent.{bit, bytes}
 use Rattle.model.specs.Unfolding.{reads}
-use Rattle.model.proofs.Lent.{length-bytes, bytes-at}
+use Rattle.model.proofs.Lent.{length-bytes, bytes-at, bit-one}
 use Rattle.words.specs.Words.{wordAt, words, bytesOf, bits, countIn}
 use Rattle.words.proofs.Laws.{length-bytesOf, words-bytesOf}
 use Rattle.refusal.specs.declared.Judged.{Judged}
@@ -73,10 +73,6 @@ count-same : (x y l k : List ℕ) (m : ℕ) → x ≡ y → l ≡ k → countIn 
 count-same x y l k m p q h = rw (p, q) h
 
 -- the bytes of the conditions say which are persistent
-bit-one : (t : Bool) → eqb (bit t) 1 ≡ t
-bit-one true = eq-eqb 1 1 refl
-bit-one false = ne-eqb 0 1 (λ e. let z : _≡_ {A = ℕ} 0 1 = e in absurd (omega arith))
-
 flag-at : (c : ℕ) (m : Marking) (b : ℕ) → b < c → eqb (getD (bytes c m) b 0) 1 ≡ m b
 flag-at c m b h = ap (λ (x : ℕ). eqb x 1) (bytes-at c m b h) ∙ bit-one (m b)
 
