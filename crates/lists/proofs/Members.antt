@@ -93,6 +93,14 @@ mem-keep f b l =
     (λ t. let r = keep-out f l (mem-in b (keep f l) t) in and-both (mem b l) (f b) (in-mem (r .0)) (r .1))
     (λ t. in-mem (keep-in f (mem-in b l (and-left (mem b l) (f b) t)) (and-right (mem b l) (f b) t)))
 
+pub keep-append : (t : ℕ → Bool) (a b : List ℕ) → keep t (a ++ b) ≡ keep t a ++ keep t b
+keep-append t [] b = refl
+keep-append t (x ∷ a) b = go (t x) (keep-append t a b)
+  where
+    go : (c : Bool) → keep t (a ++ b) ≡ keep t a ++ keep t b → cond c (x ∷ keep t (a ++ b)) (keep t (a ++ b)) ≡ cond c (x ∷ keep t a) (keep t a) ++ keep t b
+    go true ih = ap {B = List ℕ} (λ z. x ∷ z) ih
+    go false ih = ih
+
 -- tests that agree on the members keep the same
 pub keep-same : (f g : ℕ → Bool) (l : List ℕ) → ((b : ℕ) → T (mem b l) → f b ≡ g b) → keep f l ≡ keep g l
 keep-same f g [] h = refl

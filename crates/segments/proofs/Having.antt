@@ -1,26 +1,19 @@
 -- The place of an event among the users and among the markers of a condition: how many of the events before it are there.
-use mathlib.Core.Path.{_≡_, refl, _∙_, ap}
-use mathlib.Core.Bool.{Bool, true, false, cond}
+use mathlib.Core.Path.{_≡_, _∙_, ap}
+use mathlib.Core.Bool.{Bool, true, false}
 use mathlib.Core.Option.{some}
-use mathlib.Core.List.{List, [], _∷_, _++_}
+use mathlib.Core.List.{List, _∷_, _++_}
 use Prim.Native.Nat.{ℕ, suc, _+_, _-_, _≤_, _<_}
 use lib.ListN.{getElem?, length, length-append, length-map}
 use native.Mathlib.Nat.{add-zero, zero-add}
 use native.Mathlib.Omega.{arith}
 use Rattle.lists.specs.Lists.{mem, keep, count}
 use Rattle.lists.proofs.Positions.{at-right, at-map, count-split}
+use Rattle.lists.proofs.Members.{keep-append}
 use Rattle.model.specs.Net.{Net}
 use Rattle.model.specs.Runs.{Marker, byEvent}
 use Rattle.model.specs.Unfolding.{markers, users}
 use Rattle.tally.specs.Having.{having}
-
-keep-append : (t : ℕ → Bool) (xs ys : List ℕ) → keep t (xs ++ ys) ≡ keep t xs ++ keep t ys
-keep-append t [] ys = refl
-keep-append t (x ∷ xs) ys = go (t x) (keep-append t xs ys)
-  where
-    go : (b : Bool) → keep t (xs ++ ys) ≡ keep t xs ++ keep t ys → cond b (x ∷ keep t (xs ++ ys)) (keep t (xs ++ ys)) ≡ cond b (x ∷ keep t xs) (keep t xs) ++ keep t ys
-    go true ih = ap {B = List ℕ} (λ z. x ∷ z) ih
-    go false ih = ih
 
 module _ (t : ℕ → Bool) (e k : ℕ) where
   keep-split : e ≤ k → keep t (count 0 k) ≡ keep t (count 0 e) ++ keep t (count e (k - e))

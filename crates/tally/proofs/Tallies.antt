@@ -5,7 +5,7 @@ use native.Mathlib.Numerals.{add-one, sub-one}
 use native.Mathlib.Decide.{decLe}
 use native.Mathlib.Nat.{zero-add}
 use mathlib.Core.Path.{_≡_, refl, ap, _∙_}
-use mathlib.Core.List.{List, [], _∷_, _++_}
+use mathlib.Core.List.{List, [], _∷_}
 use mathlib.Core.Bool.{Bool, true, false, cond}
 use lib.Dec.{T, eqb, eqb→eq}
 use lib.ListN.{length, getD, length-append, List·getD-eq-default}
@@ -13,6 +13,7 @@ use borrow.Author.Tests.{eq-eqb, ne-eqb}
 use Rattle.lists.specs.Lists.{mem, all, index, keep, count}
 use Rattle.lists.proofs.Bools.{and-left, and-right}
 use Rattle.lists.proofs.Positions.{count-split}
+use Rattle.lists.proofs.Members.{keep-append}
 use Rattle.model.specs.Net.{Net}
 use Rattle.words.specs.Words.{words}
 use Rattle.table.specs.Decoded.{netOf}
@@ -22,14 +23,6 @@ use Rattle.tally.proofs.Lists.{one, raised-length, raised-at, words-lon
 use Rattle.tally.proofs.Events.{within-limits, list-read, list-ascends, list-inside}
 
 -- ---- what is kept, from the end
-
-keep-append : (t : ℕ → Bool) (a b : List ℕ) → keep t (a ++ b) ≡ keep t a ++ keep t b
-keep-append t [] b = refl
-keep-append t (x ∷ a) b = go (t x) (keep-append t a b)
-  where
-    go : (c : Bool) → keep t (a ++ b) ≡ keep t a ++ keep t b → cond c (x ∷ keep t (a ++ b)) (keep t (a ++ b)) ≡ cond c (x ∷ keep t a) (keep t a) ++ keep t b
-    go true ih = ap {B = List ℕ} (λ z. x ∷ z) ih
-    go false ih = ih
 
 pub keep-more : (t : ℕ → Bool) (k : ℕ) → length (keep t (count 0 (k + 1))) ≡ length (keep t (count 0 k)) + one (t k)
 keep-more t k =
