@@ -6,7 +6,7 @@ use mathlib.Core.Path.{_≡_, refl, sym, _∙_, ap, subst}
 use mathlib.Core.Bool.{Bool, true, false, cond}
 use mathlib.Core.Logic.{inl, inr}
 use mathlib.Core.Option.{some}
-use mathlib.Core.List.{List, [], _∷_, map}
+use mathlib.Core.List.{_∷_, map}
 use lib.Dec.{T, eqb}
 use lib.ListN.{length, getD, getElem?, length-map}
 use borrow.Author.Tests.{eq-eqb, ne-eqb}
@@ -20,17 +20,13 @@ use Rattle.model.specs.Net.{Net}
 use Rattle.model.specs.Runs.{Marker, byEvent}
 use Rattle.model.specs.Unfolding.{sameMarker, ordinary, copy, markers, users, copies, unfoldedConditions}
 use Rattle.model.specs.Numbering.{width, countedCondition}
-use Rattle.model.proofs.Unfolded.{kind-of, pair-of}
+use Rattle.model.proofs.Unfolded.{kind-of, pair-of, index-events}
 use Rattle.model.proofs.Counts.{marker-at, width-copies, countedCondition-back}
 use Rattle.model.proofs.Sets.{conditions-paper, markers-paper}
 use Rattle.tally.specs.Having.{having}
 use Rattle.copies.specs.Writing.{Within}
 
 -- ---- markers by event
-
-index-map : (e : ℕ) (l : List ℕ) → index (sameMarker (byEvent e)) (map byEvent l) ≡ index (eqb e) l
-index-map e [] = refl
-index-map e (x ∷ l) = ap (λ (k : ℕ). cond (eqb e x) 0 (suc k)) (index-map e l)
 
 -- the place of a number that is kept is how many before it are kept
 place-keep : (t : ℕ → Bool) (i d k : ℕ) → t (i + d) ≡ true → index (eqb (i + d)) (keep t (count i (d + suc k))) ≡ length (keep t (count i d))
@@ -56,7 +52,7 @@ module _ (n : Net) where
       let whole : e + suc (n .events - suc e) ≡ n .events = omega arith in
       let at : index (eqb e) (keep f (count 0 (e + suc (n .events - suc e)))) ≡ length (keep f (count 0 e))
       = rw zero-add at (place-keep f 0 e (n .events - suc e) (rw zero-add (is-true (f e) t))) in
-      omega (arith, index-map e (keep f (count 0 (n .events))), rw whole at at)
+      omega (arith, index-events e (keep f (count 0 (n .events))), rw whole at at)
 
   -- what stands in such a range is a copy for the marker
   pub copy-at : (b : ℕ) (x : Marker) → b < n .conditions → n .persistent b ≡ true → x ∈ markers n b → (k : ℕ) → Within (rangeOf b x) (length (users n b)) k

@@ -4,11 +4,11 @@ use mathlib.Core.Bool.{Bool, true, false, _&&_, cond}
 use mathlib.Core.Logic.{_⊎_, inl, inr}
 use mathlib.Core.Option.{some}
 use mathlib.Core.List.{List, [], _∷_, map, List·Memᴰ·head, List·Memᴰ·tail, List·Memᴰ·not-nil, List·Memᴰ·cases-cons, Memᴰ·map, Memᴰ·of-map, List·Memᴰ·eq-of-singleton}
-use Prim.Native.Nat.{ℕ, _<_, zero-le}
+use Prim.Native.Nat.{ℕ, suc, _<_, zero-le}
 use lib.Dec.{T, eqb, eqb→eq, eqb-refl, ltb, ltb→lt}
 use lib.ListN.{getElem?, length}
 use native.Mathlib.Omega.{arith}
-use Rattle.lists.specs.Lists.{mem, count, spread, _∈_}
+use Rattle.lists.specs.Lists.{mem, count, spread, _∈_, index}
 use Rattle.lists.proofs.Bools.{and-left, and-right, and-both, or-left, or-right, or-cases}
 use Rattle.lists.proofs.Members.{mem-in, spread-in, spread-out, keep-in, count-in, count-out}
 use Rattle.lists.proofs.Places.{in-at, at-some, hit, mem-places, hit-out}
@@ -25,6 +25,11 @@ sameMarker-eq atStart atStart t = refl
 sameMarker-eq atStart (byEvent e) t = absurd t
 sameMarker-eq (byEvent e) atStart t = absurd t
 sameMarker-eq (byEvent e) (byEvent f) t = ap byEvent (eqb→eq e f t)
+
+-- markers by event stand where their events stand
+pub index-events : (e : ℕ) (l : List ℕ) → index (sameMarker (byEvent e)) (map byEvent l) ≡ index (eqb e) l
+index-events e [] = refl
+index-events e (x ∷ l) = ap (λ (k : ℕ). cond (eqb e x) 0 (suc k)) (index-events e l)
 
 -- a colour has one of each list
 abbrev pub Each : List Marker → List (List Marker) → Type 0

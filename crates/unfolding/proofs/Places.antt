@@ -2,7 +2,7 @@
 use Prim.Native.Nat.{ℕ, zero, suc, _+_, _-_, _≤_, _<_}
 use native.Mathlib.Omega.{arith}
 use native.Mathlib.Numerals.{sub-one}
-use mathlib.Core.Path.{_≡_, refl, ap}
+use mathlib.Core.Path.{_≡_, refl}
 use mathlib.Core.List.{List, [], _∷_, map}
 use mathlib.Core.Bool.{Bool, true, false, cond}
 use lib.Dec.{eqb}
@@ -11,6 +11,7 @@ use Rattle.lists.specs.Lists.{index, keep, count}
 use Rattle.model.specs.Net.{Net}
 use Rattle.model.specs.Runs.{Marker, atStart, byEvent}
 use Rattle.model.specs.Unfolding.{sameMarker, markers}
+use Rattle.model.proofs.Unfolded.{index-events}
 use Rattle.refusal.specs.declared.Marker.the-variants.{Start, ByEvent}
 use Rattle.tally.specs.Having.{having}
 use Rattle.unfolding.specs.Markers.{shown}
@@ -19,10 +20,6 @@ map-at : (l : List ℕ) (p : ℕ) → p < length l → getD (map byEvent l) p at
 map-at [] p h = absurd (omega arith)
 map-at (x ∷ l) zero h = refl
 map-at (x ∷ l) (suc p) h = map-at l p (omega arith)
-
-index-map : (e : ℕ) (l : List ℕ) → index (sameMarker (byEvent e)) (map byEvent l) ≡ index (eqb e) l
-index-map e [] = refl
-index-map e (x ∷ l) = ap (λ (k : ℕ). cond (eqb e x) 0 (suc k)) (index-map e l)
 
 pub index-most : {A : Type 0} (t : A → Bool) (l : List A) → index t l ≤ length l
 index-most t [] = omega arith
@@ -53,7 +50,7 @@ module _ (n : Net) (b : ℕ) where
 
   pub place-event : (e k : ℕ) → k ≡ n .events → index (sameMarker (byEvent e)) (markers n b) ≡ 1 + index (eqb e) (having n true b k)
   unfolding markers
-  place-event e k q = rw q (omega (arith, index-map e (having n true b (n .events))))
+  place-event e k q = rw q (omega (arith, index-events e (having n true b (n .events))))
 
   pub place-start : index (sameMarker atStart) (markers n b) ≡ 0
   unfolding markers
