@@ -14,7 +14,7 @@ use Rattle.model.specs.Net.{Net, Marking, begin, fire}
 use Rattle.model.specs.Runs.{runs, end, opening, replay}
 use Rattle.model.specs.Exchange.{apart, apartStep, exchanged}
 use Rattle.model.specs.Across.{Refusal, Answer, run, unless, stuck, mostSteps, tooLong, noStep, notApart, exchanging, exchange}
-use Rattle.model.proofs.Firing.{runs-first, runs-rest, runs-cons, can-event}
+use Rattle.model.proofs.Firing.{runs-first, runs-rest, runs-cons, runs-event}
 use Rattle.model.proofs.Answers.{not-stuck, stuck-none, short-length, length-short}
 use Rattle.refusal.specs.declared.Refusal as table
 use Rattle.refusal.specs.declared.Judged.{Judged}
@@ -42,11 +42,6 @@ module _ (n : Net) where
   runs-take m [] (suc k) t = tt
   runs-take m (e ∷ r) zero t = tt
   runs-take m (e ∷ r) (suc k) t = runs-cons n m e (take k r) (runs-first n m e r t) (runs-take (fire n m e) r k (runs-rest n m e r t))
-
-  runs-event : (m : Marking) (r : List ℕ) (k : ℕ) → T (runs n m r) → k < length r → getD r k 0 < n .events
-  runs-event m [] k t h = absurd (omega arith)
-  runs-event m (e ∷ r) zero t h = ltb→lt e (n .events) (can-event n m e (runs-first n m e r t))
-  runs-event m (e ∷ r) (suc k) t h = runs-event (fire n m e) r k (runs-rest n m e r t) (omega arith)
 
 module _ (s : List ℕ) (n : ℕ) (offsets r : List ℕ) (k : ℕ) (x : Exchangeable s n offsets r k) where
   pub step-below : (i : ℕ) → i < length r → getD r i 0 < n

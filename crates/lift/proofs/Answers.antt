@@ -2,22 +2,20 @@
 use Prim.Native.Nat.{ℕ, _+_, _≤_, _<_}
 use native.Mathlib.Omega.{arith}
 use mathlib.Core.Path.{_≡_, refl, sym, ap, _∙_, subst}
-use mathlib.Core.Logic.{_⊎_, inl, inr}
 use mathlib.Core.Option.{Option, none, some}
-use mathlib.Core.List.{List, [], _∷_, map, _++_, List·Memᴰ·not-nil, List·Memᴰ·cases-cons}
-use lib.Dec.{T, ltb→lt}
+use mathlib.Core.List.{List, map, _++_}
+use lib.Dec.{T}
 use lib.ListN.{length, getD, drop, length-map}
 use borrow.Author.Tests.{le-leb, lt-leb}
 use Rattle.lists.specs.Lists.{sum, _∈_}
 use Rattle.lists.proofs.Members.{in-mem, keep-out, map-same}
-use Rattle.lists.proofs.Places.{in-at, at-some}
-use Rattle.model.specs.Net.{Net, Marking, begin, fire}
+use Rattle.model.specs.Net.{Net, Marking, begin}
 use Rattle.model.specs.Runs.{runs, Marker, State, opening, after, replay}
 use Rattle.model.specs.Unfolding.{markers, reads}
 use Rattle.model.specs.Numbering.{number, radix, size}
 use Rattle.model.specs.Across.{Refusal, Answer, run, unless, stuck, tooLong, unfoldingRefused, orStart, earliest, coloured, lifted, repeated, again, lifting, lift}
 use Rattle.model.proofs.Answers.{not-stuck, stuck-none, run-lifting}
-use Rattle.model.proofs.Firing.{runs-first, runs-rest, can-event}
+use Rattle.model.proofs.Firing.{runs-events, runs-event}
 use Rattle.refusal.specs.declared.Refusal as declared
 use Rattle.refusal.specs.declared.Judged.{Judged}
 use Rattle.refusal.specs.declared.Judged.the-variants.{Fine, Refused}
@@ -110,16 +108,6 @@ module _ (s r : List ℕ) (answer : Judged) (l : List ℕ) (p : Plays (netOf s) 
   unfolding opening
   lift-runs x t = not-stuck (netOf s) 0 (opening (netOf s)) r (open-links (tooLong r) (stuck (replay (netOf s) 0 (opening (netOf s)) r)) (netOf s .conditions) x (sym told ∙ t) .1)
 
--- ---- the events of a run
-
-runs-events : (n : Net) (m : Marking) (r : List ℕ) → T (runs n m r) → (e : ℕ) → e ∈ r → e < n .events
-runs-events n m [] t e i = absurd (List·Memᴰ·not-nil i)
-runs-events n m (x ∷ r) t e i = go (List·Memᴰ·cases-cons i) (runs-events n (fire n m x) r (runs-rest n m x r t) e)
-  where
-    go : (e ≡ x) ⊎ (e ∈ r) → (e ∈ r → e < n .events) → e < n .events
-    go (inl q) ih = rw q (ltb→lt x (n .events) (can-event n m x (runs-first n m x r t)))
-    go (inr j) ih = ih j
-
 -- ---- a run lifted
 
 module _ (n : Net) (r : List ℕ) (t : T (runs n (begin n) r)) (room : ℕ) where
@@ -160,7 +148,7 @@ module _ (n : Net) (r : List ℕ) (t : T (runs n (begin n) r)) (room : ℕ) wher
 
     module _ (ns : List ℕ) (g : numbers.Settled n slots ns) where
       step-event : (k : ℕ) → k < length r → getD r k 0 < n .events
-      step-event k h = runs-events n (begin n) r t (getD r k 0) (in-at r k (at-some r k 0 h))
+      step-event k h = runs-event n (begin n) r k t h
 
       pub writing : length r ≤ room → Writing ns r room
       writing h =

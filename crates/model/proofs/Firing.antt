@@ -1,16 +1,19 @@
 -- Concession and firing at one condition: what every later theorem uses of the rule.
 use mathlib.Core.Path.{_≡_, refl, subst}
 use mathlib.Core.Bool.{Bool, true, false, not, _&&_, _||_}
+use mathlib.Core.Logic.{_⊎_, inl, inr}
 use mathlib.Core.Option.{Option, none, some}
-use mathlib.Core.List.{List, _∷_}
-use Prim.Native.Nat.{ℕ}
-use lib.Dec.{T, ltb}
+use mathlib.Core.List.{List, [], _∷_, _++_, List·Memᴰ·not-nil, List·Memᴰ·cases-cons}
+use Prim.Native.Nat.{ℕ, _<_}
+use lib.Dec.{T, ltb, ltb→lt}
+use lib.ListN.{length, getD}
 use native.Mathlib.Omega.{arith}
-use Rattle.lists.specs.Lists.{mem, nothing}
+use Rattle.lists.specs.Lists.{mem, nothing, _∈_}
 use Rattle.lists.proofs.Bools.{T-of, and-left, and-right, and-both, or-left, or-right, imp-or}
 use Rattle.lists.proofs.Tests.{failing-at, failing-of}
+use Rattle.lists.proofs.Places.{in-at, at-some}
 use Rattle.model.specs.Net.{Net, Marking, lacking, free, contact, concession, can, fire, firstStop, stopping}
-use Rattle.model.specs.Runs.{runs}
+use Rattle.model.specs.Runs.{runs, end}
 
 -- ---- a run, step by step
 
@@ -37,6 +40,24 @@ can-concession n m e t = and-right (ltb e (n .events)) (concession n m e) t
 pub can-of : (n : Net) (m : Marking) (e : ℕ) → T (ltb e (n .events)) → T (concession n m e) → T (can n m e)
 unfolding can
 can-of n m e s t = and-both (ltb e (n .events)) (concession n m e) s t
+
+-- one step more
+pub runs-snoc : (n : Net) (m : Marking) (a : List ℕ) (e : ℕ) → T (runs n m a) → T (can n (end n m a) e) → T (runs n m (a ++ e ∷ []))
+unfolding runs end
+runs-snoc n m [] e t c = and-both (can n m e) true c tt
+runs-snoc n m (x ∷ a) e t c = runs-cons n m x (a ++ e ∷ []) (runs-first n m x a t) (runs-snoc n (fire n m x) a e (runs-rest n m x a t) c)
+
+-- each step is an event of the net
+pub runs-events : (n : Net) (m : Marking) (r : List ℕ) → T (runs n m r) → (e : ℕ) → e ∈ r → e < n .events
+runs-events n m [] t e i = absurd (List·Memᴰ·not-nil i)
+runs-events n m (x ∷ r) t e i = go (List·Memᴰ·cases-cons i) (runs-events n (fire n m x) r (runs-rest n m x r t) e)
+  where
+    go : (e ≡ x) ⊎ (e ∈ r) → (e ∈ r → e < n .events) → e < n .events
+    go (inl q) ih = rw q (ltb→lt x (n .events) (can-event n m x (runs-first n m x r t)))
+    go (inr j) ih = ih j
+
+pub runs-event : (n : Net) (m : Marking) (r : List ℕ) (k : ℕ) → T (runs n m r) → k < length r → getD r k 0 < n .events
+runs-event n m r k t h = runs-events n m r t (getD r k 0) (in-at r k (at-some r k 0 h))
 
 -- ---- which postconditions are free: all that is used of the rule of contact
 

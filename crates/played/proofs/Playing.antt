@@ -4,18 +4,17 @@ use native.Mathlib.Numerals.{add-one}
 use native.Mathlib.Nat.{zero-add}
 use native.Mathlib.Omega.{arith}
 use mathlib.Core.Path.{_≡_, refl, sym, ap, _∙_, subst}
-use mathlib.Core.Bool.{true}
 use mathlib.Core.Option.{Option, none, some}
 use mathlib.Core.List.{List, [], _∷_, _++_}
 use lib.Dec.{T, ltb→lt}
 use lib.ListN.{length, getD, take, drop}
 use lib.Seq.{take-suc, take-all, split-at, length-take-le}
 use Rattle.lists.specs.Lists.{mem}
-use Rattle.lists.proofs.Bools.{is-false, and-both}
+use Rattle.lists.proofs.Bools.{is-false}
 use Rattle.model.specs.Net.{Net, Sound, Marking, can, fire, Stop, stopping}
 use Rattle.model.specs.Runs.{runs, end, replay}
 use Rattle.model.specs.Across.{stopped, stuck, tooLong, mostSteps}
-use Rattle.model.proofs.Firing.{runs-first, runs-rest, runs-cons, can-event, none-can, fire-none}
+use Rattle.model.proofs.Firing.{can-event, none-can, fire-none, runs-snoc}
 use Rattle.model.proofs.Replay.{stops-replay}
 use Rattle.model.proofs.Answers.{stuck-none, length-short}
 use Rattle.refusal.specs.declared.Judged.{Judged}
@@ -39,11 +38,6 @@ use Rattle.step.proofs.Bytes.{lent-bytes}
 -- ---- one step more
 
 module _ (n : Net) where
-  runs-snoc : (m : Marking) (a : List ℕ) (e : ℕ) → T (runs n m a) → T (can n (end n m a) e) → T (runs n m (a ++ e ∷ []))
-  unfolding runs end
-  runs-snoc m [] e t c = and-both (can n m e) true c tt
-  runs-snoc m (x ∷ a) e t c = runs-cons n m x (a ++ e ∷ []) (runs-first n m x a t) (runs-snoc (fire n m x) a e (runs-rest n m x a t) c)
-
   end-snoc : (m : Marking) (a : List ℕ) (e : ℕ) → end n m (a ++ e ∷ []) ≡ fire n (end n m a) e
   unfolding end
   end-snoc m [] e = refl

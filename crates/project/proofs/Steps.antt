@@ -15,12 +15,12 @@ use Rattle.words.specs.Words.{words}
 use Rattle.records.specs.Records.{prePart}
 use Rattle.refusal.specs.declared.Judged.the-variants.{Fine}
 use Rattle.model.specs.Net.{Net, Marking, begin, can, fire, Stop, unknown, stopNumber, stopping}
-use Rattle.model.specs.Runs.{State, opening, step, after, runs, end}
+use Rattle.model.specs.Runs.{State, opening, step, after, runs}
 use Rattle.model.specs.Unfolding.{markers, reads, origin, basic}
 use Rattle.model.specs.Numbering.{digits, ways, size, eventCount}
 use Rattle.model.specs.Across.{readBack}
 use Rattle.model.specs.Lent.{bit, bytes, marking}
-use Rattle.model.proofs.Firing.{none-can, can-none}
+use Rattle.model.proofs.Firing.{none-can, can-none, runs-snoc}
 use Rattle.model.proofs.Copies.{Copies, copies-opening}
 use Rattle.model.proofs.Project.{project-from, back-can}
 use Rattle.model.proofs.Lent.{length-bytes, bytes-marking}
@@ -48,12 +48,6 @@ use Rattle.project.specs.Walked.{Equipped, stateAt, unfoldedAt, Walked, 
 use Rattle.project.proofs.Located.{past-last, among, around, weight-is, rest-below, origin-is}
 
 -- ---- runs and their state, one step more
-
-runs-snoc : (n : Net) (m : Marking) (a : List ℕ) (e : ℕ) → T (runs n m a) → T (can n (end n m a) e) → T (runs n m (a ++ e ∷ []))
-unfolding runs end
-runs-snoc n m [] e t c = Rattle.lists.proofs.Bools.and-both (can n m e) true c tt
-runs-snoc n m (x ∷ a) e t c =
-    Rattle.model.proofs.Firing.runs-cons n m x (a ++ e ∷ []) (Rattle.model.proofs.Firing.runs-first n m x a t) (runs-snoc n (fire n m x) a e (Rattle.model.proofs.Firing.runs-rest n m x a t) c)
 
 after-snoc : (n : Net) (s : State) (a : List ℕ) (e : ℕ) → after n s (a ++ e ∷ []) ≡ step n (after n s a) e
 unfolding after

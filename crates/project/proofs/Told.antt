@@ -1,18 +1,18 @@
 -- What the calls answer, from the layout of the table and the replay of the run.
-use Prim.Native.Nat.{ℕ, zero, suc, _≤_, _<_}
+use Prim.Native.Nat.{ℕ, _≤_, _<_}
 use native.Mathlib.Omega.{arith}
 use mathlib.Core.Path.{_≡_, refl, sym, ap, _∙_}
 use mathlib.Core.Option.{Option, none, some}
-use mathlib.Core.List.{List, [], _∷_, _++_}
-use lib.Dec.{T, leb, ltb→lt}
+use mathlib.Core.List.{List, _++_}
+use lib.Dec.{leb}
 use lib.ListN.{length, getD, drop, length-map}
 use borrow.Author.Tests.{lt-leb, le-leb}
-use Rattle.model.specs.Net.{Net, Marking, begin, fire}
-use Rattle.model.specs.Runs.{opening, runs, replay}
+use Rattle.model.specs.Net.{Net, begin}
+use Rattle.model.specs.Runs.{opening, replay}
 use Rattle.model.specs.Unfolding.{origin, basic}
 use Rattle.model.specs.Numbering.{size}
 use Rattle.model.specs.Across.{Refusal, Answer, run, refusal, unless, stuck, tooLong, unfoldingRefused, readBack, projecting, project}
-use Rattle.model.proofs.Firing.{runs-first, runs-rest, can-event}
+use Rattle.model.proofs.Firing.{runs-event}
 use Rattle.model.proofs.Answers.{unless-run, projecting-run, run-projecting}
 use Rattle.refusal.specs.declared.Refusal as declared
 use Rattle.refusal.specs.declared.Judged.{Judged}
@@ -49,13 +49,6 @@ stuck-fitted (some y) a k room p e t = e
 length-back : (n : Net) (w : List ℕ) → length (readBack n w) ≡ length w
 unfolding readBack
 length-back n w = length-map w (λ j. origin n j .event)
-
--- each step of a run is an event of its net
-runs-each : (n : Net) (u : Marking) (w : List ℕ) → T (runs n u w) → (k : ℕ) → k < length w → getD w k 0 < n .events
-unfolding runs
-runs-each n u [] t k h = absurd (omega arith)
-runs-each n u (e ∷ w) t zero h = ltb→lt e (n .events) (can-event n u e (runs-first n u e w t))
-runs-each n u (e ∷ w) t (suc k) h = runs-each n (fire n u e) w (runs-rest n u e w t) k (omega arith)
 
 -- ---- the call
 
@@ -118,7 +111,7 @@ module _ (s w out : List ℕ) where
           size = d .sizes .size;
           each = λ k l.
               let last : getD before m 0 ≡ basic n .events = ap (λ (x : ℕ). getD before x 0) (all-events m f) ∙ total n before (d .sizes) 0 in
-              let low = runs-each (basic n) (begin (basic n)) w (t .plays v z) k l in
+              let low = runs-event (basic n) (begin (basic n)) w k (t .plays v z) l in
               omega (arith, last, low);
           room = omega (arith, steps-are);
         }
