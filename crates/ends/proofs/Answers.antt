@@ -6,18 +6,18 @@ use mathlib.Core.Bool.{Bool}
 use mathlib.Core.Option.{Option, none, some}
 use mathlib.Core.List.{List, _++_}
 use lib.Dec.{leb}
-use lib.ListN.{length, take, drop, length-map, length-append}
+use lib.ListN.{length, take, drop, length-append}
 use lib.Seq.{take-append-seam, take-all}
 use Rattle.lists.specs.Lists.{mem}
 use Rattle.lists.proofs.Bools.{or-none}
 use Rattle.model.specs.Net.{Net, Sound, Marking, begin}
 use Rattle.model.specs.Lent.{bytes, marking}
 use Rattle.model.specs.Runs.{end, opening, after, replay}
-use Rattle.model.specs.Unfolding.{origin, basic}
-use Rattle.model.specs.Across.{Refusal, Answer, run, refusal, unless, stuck, mostSteps, tooLong, unfoldingRefused, earliest, lifting, lift, readBack, projecting, project}
-use Rattle.model.proofs.Answers.{unless-run, run-projecting, short-length}
+use Rattle.model.specs.Unfolding.{basic}
+use Rattle.model.specs.Across.{Refusal, Answer, run, refusal, unless, stuck, mostSteps, lift, readBack, projecting, project}
+use Rattle.model.proofs.Answers.{run-projecting}
 use Rattle.model.proofs.Copies.{marking-after, seen-after}
-use Rattle.model.proofs.Demands.{lift-lifts, lift-project}
+use Rattle.model.proofs.Demands.{lift-project, lift-most}
 use Rattle.refusal.specs.declared.Refusal as declared
 use Rattle.refusal.specs.declared.Judged.{Judged}
 use Rattle.refusal.specs.declared.Judged.the-variants.{Fine, Refused}
@@ -102,16 +102,6 @@ module _ (s w out : List ℕ) where
           )
 
 -- ---- a run lifted
-
-lift-length : (n : Net) (r w : List ℕ) → lift n r ≡ run w → length w ≡ length r
-unfolding readBack
-lift-length n r w a = let l = lift-lifts n r w a in sym (length-map w (λ j. origin n j .event)) ∙ ap length (l .back)
-
-lift-most : (n : Net) (r w : List ℕ) → lift n r ≡ run w → length w ≤ mostSteps
-unfolding lift
-lift-most n r w a =
-    let short = short-length r (unless-run (tooLong r) (unless (unfoldingRefused n) (lifting n (earliest n) 0 (opening n) r)) w a .0) in
-    rw (lift-length n r w a) short
 
 -- with room for every run, a lift is refused as its end is
 same-refusal : (a : Answer) (c room : ℕ) {x : declared.Refusal} → ((w : List ℕ) → a ≡ run w → length w ≤ mostSteps) → fitted a mostSteps ≡ Refused x → fitted a mostSteps ≡ ended a c room

@@ -10,9 +10,9 @@ use Rattle.model.specs.Unfolding.{basic}
 use mathlib.Core.Option.{none}
 use Rattle.model.specs.Across as across
 use Rattle.model.specs.Across.{numberOf, placeOf, Answer, run, refusal, unless, stuck, mostSteps, mostUnfolded, tooLong, unfoldingRefused, earliest, repeated, again, lifted, lifting, lift}
-use Rattle.model.proofs.Answers.{unless-run, not-stuck, short-length}
+use Rattle.model.proofs.Answers.{unless-run, not-stuck}
 use Rattle.model.proofs.Limits.{unfolds-exactly, within-exactly}
-use Rattle.model.proofs.Demands.{lift-project}
+use Rattle.model.proofs.Demands.{lift-project, lift-lifts, lift-length, lift-most}
 use Rattle.refusal.specs.declared.Refusal.{Refusal}
 use Rattle.refusal.specs.declared.Judged.{Judged}
 use Rattle.refusal.specs.declared.Judged.the-variants.{Fine, Refused}
@@ -32,7 +32,7 @@ use Rattle.lines.specs.declared.Opened.{Opened}
 use Rattle.lines.specs.declared.Place.the-variants.{Start}
 use Rattle.lines.specs.Places.{restOf}
 use Rattle.lines.specs.Opening.{liftedRun, startBytes, endBytes, reachOf, openOf, Opens}
-use Rattle.lines.proofs.Opening.{files-fine, lift-length}
+use Rattle.lines.proofs.Opening.{files-fine}
 use Rattle.lines.proofs.Whole.{start-text}
 
 -- What a lift that is a run tells of the run and of the limits.
@@ -43,9 +43,6 @@ module _ (n : Net) (r w : List ℕ) (a : lift n r ≡ run w) where
 
   after-limits : (unfoldingRefused n ≡ none) × (lifting n (earliest n) 0 (opening n) r ≡ run w)
   after-limits = unless-run (unfoldingRefused n) (lifting n (earliest n) 0 (opening n) r) w (after-length .1)
-
-  few-steps : length w ≤ mostSteps
-  few-steps = rw (lift-length n r w a) (short-length r (after-length .0))
 
   few-unfolded : basic n .conditions ≤ mostUnfolded
   few-unfolded = within-exactly n .0 (unfolds-exactly n .0 (after-limits .0) .1) .0
@@ -61,7 +58,7 @@ module _ (s r : List ℕ) (n : ℕ) (j : judgeOf s ≡ Fine n) where
   module _ (w : List ℕ) (a : lift (netOf s) r ≡ run w) where
     lift-fits : liftOf s r mostSteps ≡ Fine (length w)
     unfolding liftOf fitted
-    lift-fits = rw (j, a) (sym (fitting-room (length w) mostSteps (few-steps (netOf s) r w a)))
+    lift-fits = rw (j, a) (sym (fitting-room (length w) mostSteps (lift-most (netOf s) r w a)))
 
     numbers : liftedRun s r ≡ w
     unfolding liftedRun
@@ -79,7 +76,7 @@ module _ (s r : List ℕ) (n : ℕ) (j : judgeOf s ≡ Fine n) where
     text-lines : restOf (netOf s) r (liftedRun s r) (endBytes s r) (startBytes s) Start ≡ linesOf (netOf s) r w
     unfolding startBytes endBytes linesOf
     text-lines =
-        start-text (netOf s) r (liftedRun s r) (endBytes s r) (accepted-sound s n j) (ap length numbers ∙ lift-length (netOf s) r w a)
+        start-text (netOf s) r (liftedRun s r) (endBytes s r) (accepted-sound s n j) (ap length numbers ∙ lift-length (netOf s) r w (lift-lifts (netOf s) r w a))
         (end (basic (netOf s)) (begin (basic (netOf s))) (liftedRun s r)) (is-run (netOf s) r w a) refl
         ∙ ap (linesOf (netOf s) r) numbers
 

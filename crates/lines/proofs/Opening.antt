@@ -4,16 +4,16 @@ use native.Mathlib.Omega.{arith}
 use mathlib.Core.Path.{_≡_, refl, sym, ap, _∙_, subst}
 use mathlib.Core.List.{List}
 use lib.Dec.{leb}
-use lib.ListN.{length, take, length-map}
+use lib.ListN.{length, take}
 use lib.Seq.{getD-take, length-take-le}
 use borrow.Author.Tests.{leb-true}
-use Rattle.model.specs.Net.{Net, begin}
+use Rattle.model.specs.Net.{begin}
 use Rattle.model.specs.Runs.{end}
 use Rattle.model.specs.Lent.{bytes}
-use Rattle.model.specs.Unfolding.{origin, basic}
-use Rattle.model.specs.Across.{Answer, run, refusal, lift, readBack, project, mostSteps, mostUnfolded}
+use Rattle.model.specs.Unfolding.{basic}
+use Rattle.model.specs.Across.{Answer, run, refusal, lift, project, mostSteps, mostUnfolded}
 use Rattle.model.proofs.Lent.{length-bytes, bytes-at, bytes-are}
-use Rattle.model.proofs.Demands.{lift-lifts}
+use Rattle.model.proofs.Demands.{lift-lifts, lift-length}
 use Rattle.refusal.specs.declared.Refusal.{Refusal}
 use Rattle.refusal.specs.declared.Judged.{Judged}
 use Rattle.refusal.specs.declared.Judged.the-variants.{Fine, Refused}
@@ -85,11 +85,6 @@ unfolding ended
 ended-fine (run w) count room c e = fitting-fine count room c e
 ended-fine (refusal x) count room c e = never-both (sym e)
 
--- A lift has a number for each step.
-pub lift-length : (n : Net) (r w : List ℕ) → lift n r ≡ run w → length w ≡ length r
-unfolding readBack
-lift-length n r w a = sym (length-map w (λ j. origin n j .event)) ∙ ap length (lift-lifts n r w a .back)
-
 -- What a fine lift has told.
 pub record Lifted (s r : List ℕ) (count : ℕ) : Type 0 where
   pub numbers : List ℕ
@@ -105,7 +100,7 @@ lift-fine s r count e =
     let (n, j, f) = then-fine (judgeOf s) (λ _. fitted (lift (netOf s) r) mostSteps) count e in
     let (w, a, size, room) = fitted-fine (lift (netOf s) r) mostSteps count f in
     let is : w ≡ numbersOf (lift (netOf s) r) = sym (ap numbersOf a) in
-    let long = lift-length (netOf s) r w a in
+    let long = lift-length (netOf s) r w (lift-lifts (netOf s) r w a) in
     record { numbers = w; lifts = a; are = is; counted = size ∙ ap length is; same = size ∙ long; short = omega (arith, size) }
 
 replay-sizes : (s w : List ℕ) (room u : ℕ) → unfoldedReplayOf s w room ≡ Fine u → (u ≡ basic (netOf s) .conditions) × (u ≤ room)

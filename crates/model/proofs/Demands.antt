@@ -6,17 +6,16 @@ use mathlib.Core.Option.{none, some}
 use mathlib.Core.List.{List}
 use Prim.Native.Nat.{ℕ, suc, _≤_, _<_}
 use lib.Dec.{T}
-use lib.ListN.{getElem?, length, length-map}
-use Rattle.lists.specs.Lists.{same}
+use lib.ListN.{getElem?, length}
 use Rattle.model.specs.Net.{Net, Sound, Marking, begin, Stop}
 use Rattle.model.specs.Runs.{runs, end, opening, after, ends}
-use Rattle.model.specs.Unfolding.{UnfoldedCondition, unfoldedConditions, origin, basic}
+use Rattle.model.specs.Unfolding.{UnfoldedCondition, unfoldedConditions, basic}
 use Rattle.model.specs.Exchange.{apartStep, exchanged}
 use Rattle.model.specs.Across.{stopped, other, run, refusal, unless, mostSteps, tooLong, unfoldingRefused, Lifting, earliest, lifted, repeated, lifting, lift, readBack, projecting, project, exchanging, exchange}
 use Rattle.model.specs.Demands.{Stops, Correspond, Lifts, Projects, Again, FirstAgain, holdsAfter, Exchanged}
 use Rattle.model.proofs.Laws.{Lawful, Plain}
 use Rattle.model.proofs.Copies.{reached-opening, copies-opening, correspond, determined, marking-after, status-after}
-use Rattle.model.proofs.Project.{project-from, projection}
+use Rattle.model.proofs.Project.{project-from, projection, length-back}
 use Rattle.model.proofs.Lift.{lifting-runs}
 use Rattle.model.proofs.Answers.{unless-run, lifting-run, run-lifting, lifting-again, lifting-stopped, projecting-run, run-projecting, projecting-stopped, exchanging-run, run-exchanging, exchanging-no-step, exchanging-not-apart, exchanging-stopped, short-length, length-short}
 use Rattle.model.proofs.Exchange.{exchange-runs, exchanged-twice, exchanged-short}
@@ -66,6 +65,16 @@ lift-lifts n r w h =
     let y = unless-run (unfoldingRefused n) (lifting n (earliest n) 0 (opening n) r) w (x .1) in
     let z = lifting-run n (earliest n) 0 (opening n) r w (y .1) in
     subst (λ (q : List ℕ). Lifts n r q) (sym (z .2)) (lawful-lifts n (earliest n) (earliest-lawful n) r (z .0) (z .1))
+
+-- A lift has a number for each step, and no more than a run may have steps.
+pub lift-length : (n : Net) (r w : List ℕ) → Lifts n r w → length w ≡ length r
+lift-length n r w l = sym (length-back n w) ∙ ap length (l .back)
+
+pub lift-most : (n : Net) (r w : List ℕ) → lift n r ≡ run w → length w ≤ mostSteps
+unfolding lift
+lift-most n r w h =
+    let x = unless-run (tooLong r) (unless (unfoldingRefused n) (lifting n (earliest n) 0 (opening n) r)) w h in
+    rw (lift-length n r w (lift-lifts n r w h)) (short-length r (x .0))
 
 -- Where the table unfolds and the run is not too long, lift is the lifting of the run's steps.
 module _ (n : Net) (r : List ℕ) (short : tooLong r ≡ none) (unfolds : unfoldingRefused n ≡ none) where
@@ -128,14 +137,12 @@ project-projects n s w r h =
 
 -- What lift answers, project takes back to the run.
 pub lift-project : (n : Net) (r w : List ℕ) → lift n r ≡ run w → project n w ≡ run r
-unfolding lift project readBack
+unfolding lift project
 lift-project n r w h =
     let x = unless-run (tooLong r) (unless (unfoldingRefused n) (lifting n (earliest n) 0 (opening n) r)) w h in
     let y = unless-run (unfoldingRefused n) (lifting n (earliest n) 0 (opening n) r) w (x .1) in
     let l = lift-lifts n r w h in
-    let same : length r ≡ length w = ap (λ (z : List ℕ). length z) (sym (l .back)) ∙ length-map w (λ j. origin n j .event) in
-    let short = length-short w (subst (λ (c : ℕ). c ≤ mostSteps) same (short-length r (x .0))) in
-    rw (short, y .0) (run-projecting n w (l .run) ∙ ap run (l .back))
+    rw (length-short w (lift-most n r w h), y .0) (run-projecting n w (l .run) ∙ ap run (l .back))
 
 -- The unfolded marking that a run of the unfolded net reaches is told by the run that it reads back as.
 pub unfolded-marking : (n : Net) → Sound n → (w : List ℕ) → T (runs (basic n) (begin (basic n)) w)

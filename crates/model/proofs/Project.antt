@@ -4,6 +4,7 @@ use mathlib.Core.Bool.{Bool, true, false}
 use mathlib.Core.List.{List, [], _∷_}
 use Prim.Native.Nat.{ℕ, _<_}
 use lib.Dec.{T, eqb, eqb-refl, lt→ltb}
+use lib.ListN.{length, length-map}
 use Rattle.lists.specs.Lists.{mem, _∈_}
 use Rattle.lists.proofs.Bools.{T-of, and-both}
 use Rattle.lists.proofs.Places.{place-of}
@@ -15,6 +16,11 @@ use Rattle.model.specs.Demands.{Correspond}
 use Rattle.model.proofs.Firing.{runs-first, runs-rest, runs-cons, can-event, can-concession, can-of, unblocked, concession-intro}
 use Rattle.model.proofs.Unfolded.{event-uses, ordinary-in, copy-in, colour-out, colour-picks, puts-at, free-ordinary, origin-in}
 use Rattle.model.proofs.Copies.{status, Copies, copies-opening, takes-held, copies-step, correspond, marking-after}
+
+-- a run read back has as many steps
+pub length-back : (n : Net) (w : List ℕ) → length (readBack n w) ≡ length w
+unfolding readBack
+length-back n w = length-map w (λ j. origin n j .event)
 
 -- a step of the unfolded net reads back as a step of the table
 module _ (n : Net) (d : Sound n) (s : State) (u : Marking) (i : Copies n s u) (j : ℕ) (c : T (can (basic n) u j)) where

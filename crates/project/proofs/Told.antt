@@ -5,15 +5,16 @@ use mathlib.Core.Path.{_≡_, refl, sym, ap, _∙_}
 use mathlib.Core.Option.{Option, none, some}
 use mathlib.Core.List.{List, _++_}
 use lib.Dec.{leb}
-use lib.ListN.{length, getD, drop, length-map}
+use lib.ListN.{length, getD, drop}
 use borrow.Author.Tests.{lt-leb, le-leb}
 use Rattle.model.specs.Net.{Net, begin}
 use Rattle.model.specs.Runs.{opening, replay}
-use Rattle.model.specs.Unfolding.{origin, basic}
+use Rattle.model.specs.Unfolding.{basic}
 use Rattle.model.specs.Numbering.{size}
 use Rattle.model.specs.Across.{Refusal, Answer, run, refusal, unless, stuck, tooLong, unfoldingRefused, readBack, projecting, project}
 use Rattle.model.proofs.Firing.{runs-event}
 use Rattle.model.proofs.Answers.{unless-run, projecting-run, run-projecting}
+use Rattle.model.proofs.Project.{length-back}
 use Rattle.refusal.specs.declared.Refusal as declared
 use Rattle.refusal.specs.declared.Judged.{Judged}
 use Rattle.refusal.specs.declared.Judged.the-variants.{Fine, Refused}
@@ -45,10 +46,6 @@ stuck-fitted : (o : Option Refusal) (a : Answer) (k room : ℕ) (p : Judged) {x 
 unfolding fitted
 stuck-fitted none a k room p e t = never-both (sym e ∙ t)
 stuck-fitted (some y) a k room p e t = e
-
-length-back : (n : Net) (w : List ℕ) → length (readBack n w) ≡ length w
-unfolding readBack
-length-back n w = length-map w (λ j. origin n j .event)
 
 -- ---- the call
 

@@ -8,19 +8,20 @@ use mathlib.Core.List.{List, [], _∷_, _++_}
 use Prim.Native.Nat.{ℕ, zero, suc, _≤_, _<_}
 use native.Mathlib.Omega.{arith}
 use lib.Dec.{T, leb}
-use lib.ListN.{length, take, drop, length-map}
+use lib.ListN.{length, take, drop}
 use lib.Seq.{take-append-seam}
 use borrow.Author.Tests.{le-leb, leb-true}
 use Rattle.model.specs.Net.{Net, Marking, begin, unknown, lacks, meets}
 use Rattle.model.specs.Runs.{runs, end, opening, replay}
-use Rattle.model.specs.Unfolding.{origin, basic}
+use Rattle.model.specs.Unfolding.{basic}
 use Rattle.model.specs.Lent.{bytes}
 use Rattle.model.specs.Exchange.{exchanged}
 use Rattle.model.specs.Across.{Refusal, Answer, run, refusal, stopped, other, unless, stuck, mostSteps, tooLong, unfoldingRefused, lifting, lift, readBack, projecting, project, exchanging, exchange}
-use Rattle.model.specs.Demands.{Correspond, Lifts, Projects}
+use Rattle.model.specs.Demands.{Correspond, Projects}
 use Rattle.model.proofs.Answers.{unless-run, not-stuck, stuck-none, exchanging-run, short-length, length-short}
 use Rattle.model.proofs.Exchange.{exchanged-twice, length-exchanged}
-use Rattle.model.proofs.Demands.{lift-lifts, lift-project, lift-exactly, lift-again, project-projects, project-exactly, exchange-exchanged, exchange-lifts, exchange-ends}
+use Rattle.model.proofs.Demands.{lift-lifts, lift-project, lift-exactly, lift-again, project-projects, project-exactly, exchange-exchanged, exchange-lifts, exchange-ends, lift-length}
+use Rattle.model.proofs.Project.{length-back}
 use Rattle.refusal.specs.declared.Judged.{Judged}
 use Rattle.refusal.specs.declared.Judged.the-variants.{Fine}
 use Rattle.refusal.specs.Answer as refused
@@ -104,14 +105,9 @@ module _ (s : List ℕ) (n : ℕ) (j : judgeOf s ≡ Fine n) where
   replay-given r room short t h =
       rw (j, length-short r short, stuck-none (netOf s) 0 (opening (netOf s)) r t) (need-passes 16 (netOf s .conditions) (le-leb (netOf s .conditions) room h))
 
--- a lift has a number for each step
-lift-length : (n : Net) (r w : List ℕ) → Lifts n r w → length w ≡ length r
-unfolding readBack
-lift-length n r w l = sym (length-map w (λ j. origin n j .event)) ∙ ap length (l .back)
-
+-- what is read back has as many steps
 project-length : (n : Net) (w r : List ℕ) → Projects n w r → length r ≡ length w
-unfolding readBack
-project-length n w r p = ap length (sym (p .back)) ∙ length-map w (λ j. origin n j .event)
+project-length n w r p = ap length (sym (p .back)) ∙ length-back n w
 
 -- ---- demand 2
 
