@@ -22,7 +22,7 @@ use Rattle.refusal.specs.declared.Refusal as declared
 use Rattle.refusal.specs.declared.Judged.{Judged}
 use Rattle.refusal.specs.declared.Judged.the-variants.{Fine, Refused}
 use Rattle.refusal.specs.Answer.{need, andThen, fitting, written}
-use Rattle.refusal.proofs.Chain.{never-both, need-fine, then-fine}
+use Rattle.refusal.proofs.Chain.{never-both, need-fine, then-fine, fitting-room}
 use Rattle.table.specs.Walk.{judgeOf}
 use Rattle.table.specs.Decoded.{netOf}
 use Rattle.table.proofs.Sound.{accepted-sound}
@@ -34,7 +34,6 @@ use Rattle.across.specs.Prepared.{preparedOf}
 use Rattle.across.proofs.Prefix.{across-passed, across-on, ended-across}
 use Rattle.lift.specs.Calls.{liftOf, liftedOf}
 use Rattle.project.specs.Walked.{Replayed}
-use Rattle.ends.proofs.Written.{fitting-room}
 use Rattle.ends.specs.Calls.{unfoldedReplayOf, unfoldedReplayedOf, liftEndOf, liftEndedOf}
 
 -- ---- the marking that an unfolded run ends in
@@ -106,7 +105,7 @@ module _ (s w out : List ℕ) where
 -- with room for every run, a lift is refused as its end is
 same-refusal : (a : Answer) (c room : ℕ) {x : declared.Refusal} → ((w : List ℕ) → a ≡ run w → length w ≤ mostSteps) → fitted a mostSteps ≡ Refused x → fitted a mostSteps ≡ ended a c room
 unfolding fitted ended
-same-refusal (run w) c room h e = never-both (fitting-room (length w) mostSteps (h w refl) ∙ e)
+same-refusal (run w) c room h e = never-both (sym (fitting-room (length w) mostSteps (h w refl)) ∙ e)
 same-refusal (refusal y) c room h e = refl
 
 fitted-run : (a : Answer) (room v : ℕ) → fitted a room ≡ Fine v → (w : List ℕ) × (a ≡ run w) × (v ≡ length w)

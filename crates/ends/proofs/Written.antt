@@ -4,27 +4,18 @@ use mathlib.Core.Path.{_≡_, refl, sym, ap, _∙_}
 use mathlib.Core.Bool.{Bool}
 use mathlib.Core.List.{List, _++_}
 use lib.ListN.{length, drop}
-use borrow.Author.Tests.{le-leb, lt-leb}
 use Rattle.model.specs.Net.{Net, Marking, begin}
 use Rattle.model.specs.Lent.{bytes}
 use Rattle.model.specs.Unfolding.{basic}
 use Rattle.refusal.specs.declared.Judged.{Judged}
 use Rattle.refusal.specs.declared.Judged.the-variants.{Fine}
 use Rattle.refusal.specs.Answer.{refusedAt, fitting, written}
-use Rattle.refusal.proofs.Chain.{need-passes, need-refuses}
+use Rattle.refusal.proofs.Chain.{fitting-room, fitting-short}
 use Rattle.table.specs.Decoded.{netOf}
 use Rattle.copies.specs.Copies.{copiesOf}
 use Rattle.copies.specs.Writing.{Prepared}
 use Rattle.copies.proofs.Ends.{copies-length}
 use Rattle.ends.specs.Shown.{Shown}
-
-pub fitting-short : (count room : ℕ) → room < count → refusedAt 16 count ≡ fitting count room
-unfolding fitting
-fitting-short count room h = sym (need-refuses 16 count (Fine count) (lt-leb count room h))
-
-pub fitting-room : (count room : ℕ) → count ≤ room → Fine count ≡ fitting count room
-unfolding fitting
-fitting-room count room h = sym (need-passes 16 count (le-leb count room h))
 
 -- what the writer needs
 pub prepared : (s : List ℕ) (events : ℕ) (users bases state seen : List ℕ) → Shown s events users bases state seen → (begun : List ℕ) → begun ≡ bytes 256 (begin (netOf s))
@@ -35,12 +26,12 @@ prepared s events users bases state seen h begun e room fits =
 -- no room: nothing is written
 pub short : (r : Judged) (count needed : ℕ) (copies out : List ℕ) → r ≡ refusedAt 16 count → count ≡ needed → length out < count
     → (r ≡ fitting needed (length out)) × (out ≡ written r copies out)
-short r count needed copies out e same h = (e ∙ fitting-short count (length out) h ∙ ap (λ (x : ℕ). fitting x (length out)) same, rw e refl)
+short r count needed copies out e same h = (e ∙ sym (fitting-short count (length out) h) ∙ ap (λ (x : ℕ). fitting x (length out)) same, rw e refl)
 
 -- room: what the writer left is what a fine answer leaves
 pub roomy : (n : Net) (m : Marking) (seen : ℕ → Bool) (count : ℕ) (out after : List ℕ) → count ≡ basic n .conditions → count ≤ length out
     → after ≡ copiesOf n m seen ++ drop (basic n .conditions) out → (Fine count ≡ fitting (basic n .conditions) (length out)) × (after ≡ copiesOf n m seen ++ drop (length (copiesOf n m seen)) out)
 roomy n m seen count out after same h e = (
-  fitting-room count (length out) h ∙ ap (λ (x : ℕ). fitting x (length out)) same,
+  sym (fitting-room count (length out) h) ∙ ap (λ (x : ℕ). fitting x (length out)) same,
   e ∙ ap (λ (k : ℕ). copiesOf n m seen ++ drop k out) (sym (copies-length n m seen)),
 )

@@ -6,7 +6,6 @@ use mathlib.Core.Option.{Option, none, some}
 use mathlib.Core.List.{List, map, _++_}
 use lib.Dec.{T}
 use lib.ListN.{length, getD, drop, length-map}
-use borrow.Author.Tests.{le-leb, lt-leb}
 use Rattle.lists.specs.Lists.{sum, _∈_}
 use Rattle.lists.proofs.Members.{in-mem, keep-out, map-same}
 use Rattle.model.specs.Net.{Net, Marking, begin}
@@ -20,7 +19,7 @@ use Rattle.refusal.specs.declared.Refusal as declared
 use Rattle.refusal.specs.declared.Judged.{Judged}
 use Rattle.refusal.specs.declared.Judged.the-variants.{Fine, Refused}
 use Rattle.refusal.specs.Answer.{refusedAt, fitting, written}
-use Rattle.refusal.proofs.Chain.{never-both, then-fine, need-passes, need-refuses}
+use Rattle.refusal.proofs.Chain.{never-both, then-fine, fitting-room, fitting-short}
 use Rattle.table.specs.Walk.{judgeOf}
 use Rattle.table.specs.Decoded.{netOf}
 use Rattle.table.specs.Tabled.{Tabled}
@@ -134,12 +133,10 @@ module _ (n : Net) (r : List ℕ) (t : T (runs n (begin n) r)) (room : ℕ) wher
 
     -- 16
     pub lift-short : room < length r → refusedAt 16 (length r) ≡ fitted (liftingOf n r) room
-    unfolding fitting
-    lift-short h = sym (fits ∙ need-refuses 16 (length r) (Fine (length r)) (lt-leb (length r) room h))
+    lift-short h = sym (fits ∙ fitting-short (length r) room h)
 
     pub lift-fits : length r ≤ room → Fine (length r) ≡ fitted (liftingOf n r) room
-    unfolding fitting
-    lift-fits h = sym (fits ∙ need-passes 16 (length r) (le-leb (length r) room h))
+    lift-fits h = sym (fits ∙ fitting-room (length r) room h)
 
   -- ---- by the first markers that were told
   module _ (slots : List Slot) (f : Tells (after n (opening n) r) slots) (limits : Tabled n) where

@@ -17,6 +17,7 @@ use Rattle.refusal.specs.declared.Refusal.{Refusal}
 use Rattle.refusal.specs.declared.Judged.{Judged}
 use Rattle.refusal.specs.declared.Judged.the-variants.{Fine, Refused}
 use Rattle.refusal.specs.Answer.{refusedAt, andThen}
+use Rattle.refusal.proofs.Chain.{fitting-room}
 use Rattle.table.specs.Walk.{judgeOf}
 use Rattle.table.specs.Decoded.{netOf}
 use Rattle.table.proofs.Sound.{accepted-sound}
@@ -24,7 +25,6 @@ use Rattle.runs.specs.Runs.{runOf}
 use Rattle.across.specs.Calls.{fitted, ended}
 use Rattle.lift.specs.Calls.{liftOf}
 use Rattle.ends.specs.Calls.{unfoldedReplayOf}
-use Rattle.ends.proofs.Written.{fitting-room}
 use Rattle.listing.specs.Text.{refusedLine}
 use Rattle.listing.specs.Calls.{filesOf}
 use Rattle.listing.specs.Whole.{linesOf, liftedLines, judgedLines, listingOf}
@@ -58,7 +58,7 @@ module _ (s r : List ℕ) (n : ℕ) (j : judgeOf s ≡ Fine n) where
   module _ (w : List ℕ) (a : lift (netOf s) r ≡ run w) where
     lift-fits : liftOf s r mostSteps ≡ Fine (length w)
     unfolding liftOf fitted
-    lift-fits = rw (j, a) (sym (fitting-room (length w) mostSteps (lift-most (netOf s) r w a)))
+    lift-fits = rw (j, a) (fitting-room (length w) mostSteps (lift-most (netOf s) r w a))
 
     numbers : liftedRun s r ≡ w
     unfolding liftedRun
@@ -67,7 +67,7 @@ module _ (s r : List ℕ) (n : ℕ) (j : judgeOf s ≡ Fine n) where
     end-fits : unfoldedReplayOf s w mostUnfolded ≡ Fine (basic (netOf s) .conditions)
     unfolding unfoldedReplayOf ended
     end-fits =
-        rw (j, lift-project (netOf s) r w a) (sym (fitting-room (basic (netOf s) .conditions) mostUnfolded (few-unfolded (netOf s) r w a)))
+        rw (j, lift-project (netOf s) r w a) (fitting-room (basic (netOf s) .conditions) mostUnfolded (few-unfolded (netOf s) r w a))
 
     reach-fine : reachOf s r ≡ Fine (basic (netOf s) .conditions)
     unfolding reachOf

@@ -6,7 +6,6 @@ use mathlib.Core.List.{List}
 use lib.Dec.{leb}
 use lib.ListN.{length, take}
 use lib.Seq.{getD-take, length-take-le}
-use borrow.Author.Tests.{leb-true}
 use Rattle.model.specs.Net.{begin}
 use Rattle.model.specs.Runs.{end}
 use Rattle.model.specs.Lent.{bytes}
@@ -17,8 +16,8 @@ use Rattle.model.proofs.Demands.{lift-lifts, lift-length}
 use Rattle.refusal.specs.declared.Refusal.{Refusal}
 use Rattle.refusal.specs.declared.Judged.{Judged}
 use Rattle.refusal.specs.declared.Judged.the-variants.{Fine, Refused}
-use Rattle.refusal.specs.Answer.{need, andThen, fitting, written}
-use Rattle.refusal.proofs.Chain.{passed-up, goes-on, never-both, need-fine, then-fine}
+use Rattle.refusal.specs.Answer.{need, andThen, written}
+use Rattle.refusal.proofs.Chain.{passed-up, goes-on, never-both, need-fine, then-fine, fitting-fine, written-front}
 use Rattle.records.specs.Records.{conditions}
 use Rattle.table.specs.Walk.{judgeOf}
 use Rattle.table.specs.Decoded.{netOf}
@@ -30,7 +29,6 @@ use Rattle.played.specs.Played.{Indexed}
 use Rattle.runs.specs.Runs.{runKind, runOf, readAnswer}
 use Rattle.runs.proofs.Judging.{length-run}
 use Rattle.runs.proofs.Answers.{read-fine}
-use Rattle.runs.proofs.Outputs.{taken-again}
 use Rattle.across.specs.Calls.{fitted, numbersOf, ended}
 use Rattle.lift.specs.Calls.{liftOf, liftedOf}
 use Rattle.ends.specs.Calls.{unfoldedReplayOf, unfoldedReplayedOf}
@@ -61,19 +59,13 @@ files-fine s r count e =
 -- What was written stands at the front.
 front : (answer : Judged) (k count : ℕ) (new old after : List ℕ) → answer ≡ Fine k → after ≡ written answer new old → count ≡ length new → take count after ≡ new
 front answer k count new old after e is size =
-    ap (take count) (is ∙ ap (λ (x : Judged). written x new old) e) ∙ taken-again new old count size
+    ap (take count) is ∙ ap (λ (x : ℕ). take x (written answer new old)) size ∙ written-front answer k new old e
 
 -- An answer is fine with one number only.
 same-fine : (n m : ℕ) (answer : Judged) → answer ≡ Fine n → answer ≡ Fine m → n ≡ m
 same-fine n m answer e f = let x : Fine n ≡ Fine m = sym e ∙ f in cc
 
 -- ---- the lift and its end
-
-fitting-fine : (needed room c : ℕ) → fitting needed room ≡ Fine c → (c ≡ needed) × (needed ≤ room)
-unfolding fitting
-fitting-fine needed room c e =
-    let x = need-fine (leb needed room) 16 needed c (Fine needed) e in
-    (cc, leb-true needed room (x .0))
 
 fitted-fine : (a : Answer) (room c : ℕ) → fitted a room ≡ Fine c → (w : List ℕ) × (a ≡ run w) × (c ≡ length w) × (length w ≤ room)
 unfolding fitted

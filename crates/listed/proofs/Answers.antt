@@ -7,7 +7,7 @@ use lib.Dec.{ltb}
 use lib.ListN.{length, getD}
 use lib.Seq.{sets}
 use native.Mathlib.Omega.{arith}
-use borrow.Author.Tests.{le-ltb, le-leb, lt-leb}
+use borrow.Author.Tests.{le-ltb}
 use Rattle.lists.specs.Lists.{sum}
 use Rattle.lists.proofs.Stored.{stored-whole}
 use Rattle.model.specs.Unfolding.{basic}
@@ -16,7 +16,7 @@ use Rattle.refusal.specs.declared.Judged.{Judged}
 use Rattle.refusal.specs.declared.Judged.the-variants.{Fine, Refused}
 use Rattle.refusal.specs.declared.Refusal.{Refusal}
 use Rattle.refusal.specs.Answer.{refusedAt, fitting, written}
-use Rattle.refusal.proofs.Chain.{need-passes, need-refuses}
+use Rattle.refusal.proofs.Chain.{need-passes, need-refuses, fitting-room, fitting-short}
 use Rattle.table.specs.Decoded.{netOf}
 use Rattle.tally.specs.Having.{listOf}
 use Rattle.layout.specs.Unfolds.{unfoldingOf}
@@ -54,12 +54,10 @@ module _ (s : List ℕ) (post : Bool) (j : ℕ) (out : List ℕ) where
       is-fitting = u _ ∙ need-passes 10 0 there
 
       pub listing-short : length out < k → refusedAt 16 k ≡ listingOf s post j (length out)
-      unfolding fitting
-      listing-short h = sym (is-fitting ∙ rw (← z) (need-refuses 16 k (Fine k) (lt-leb k (length out) h)))
+      listing-short h = sym (is-fitting ∙ rw (← z) (fitting-short k (length out) h))
 
       pub listing-fine : k ≤ length out → Fine k ≡ listingOf s post j (length out)
-      unfolding fitting
-      listing-fine h = sym (is-fitting ∙ rw (← z) (need-passes 16 k (le-leb k (length out) h)))
+      listing-fine h = sym (is-fitting ∙ rw (← z) (fitting-room k (length out) h))
 
       pub listed-fine : k ≤ length out → sets out 0 (ranged starts sizes r) ≡ listedOf s post j out
       unfolding listedOf

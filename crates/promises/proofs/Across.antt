@@ -9,8 +9,7 @@ use Prim.Native.Nat.{ℕ, zero, suc, _≤_, _<_}
 use native.Mathlib.Omega.{arith}
 use lib.Dec.{T, leb}
 use lib.ListN.{length, take, drop}
-use lib.Seq.{take-append-seam}
-use borrow.Author.Tests.{le-leb, leb-true}
+use borrow.Author.Tests.{le-leb}
 use Rattle.model.specs.Net.{Net, Marking, begin, unknown, lacks, meets}
 use Rattle.model.specs.Runs.{runs, end, opening, replay}
 use Rattle.model.specs.Unfolding.{basic}
@@ -26,7 +25,7 @@ use Rattle.refusal.specs.declared.Judged.{Judged}
 use Rattle.refusal.specs.declared.Judged.the-variants.{Fine}
 use Rattle.refusal.specs.Answer as refused
 use Rattle.refusal.specs.Answer.{refusedAt, need, fitting, written}
-use Rattle.refusal.proofs.Chain.{never-both, need-passes, need-fine, then-fine}
+use Rattle.refusal.proofs.Chain.{never-both, need-passes, then-fine, fitting-room, fitting-fine, written-front}
 use Rattle.table.specs.Walk.{judgeOf}
 use Rattle.table.specs.Decoded.{netOf}
 use Rattle.table.proofs.Sound.{accepted-sound}
@@ -42,16 +41,6 @@ use Rattle.promises.proofs.Game.{swapping-fine}
 
 -- ---- room
 
-fitting-fine : (needed room c : ℕ) → fitting needed room ≡ Fine c → (c ≡ needed) × (needed ≤ room)
-unfolding fitting
-fitting-fine needed room c e =
-    let x = need-fine (leb needed room) 16 needed c (Fine needed) e in
-    (cc, leb-true needed room (x .0))
-
-fitting-room : (needed room : ℕ) → needed ≤ room → fitting needed room ≡ Fine needed
-unfolding fitting
-fitting-room needed room h = need-passes 16 needed (le-leb needed room h)
-
 -- a fine answer is a run that has room
 fitted-fine : (a : Answer) (room c : ℕ) → fitted a room ≡ Fine c → (w : List ℕ) × (a ≡ run w) × (c ≡ length w) × (length w ≤ room)
 unfolding fitted
@@ -62,10 +51,6 @@ ended-fine : (a : Answer) (count room c : ℕ) → ended a count room ≡ Fine c
 unfolding ended
 ended-fine (run w) count room c e = let x = fitting-fine count room c e in (w, refl, x .0, x .1)
 ended-fine (refusal x) count room c e = never-both (sym e)
-
--- what was written stands at the front
-front : (answer : Judged) (c : ℕ) (w out : List ℕ) → answer ≡ Fine c → take (length w) (written answer w out) ≡ w
-front answer c w out e = rw e (take-append-seam w (drop (length w) out))
 
 -- ---- the calls on a judged table, by the model's answers
 
@@ -123,7 +108,7 @@ lift-taken-back s r out c h runOut endOut =
     let on : liftOn s r out ≡ w
     = ap (λ (k : ℕ). take k (liftedOf s r out)) (sym long)
     ∙ ap (λ (x : List ℕ). take (length w) (written (liftOf s r (length out)) x out)) (ap numbersOf a)
-    ∙ front (liftOf s r (length out)) c w out h in
+    ∙ written-front (liftOf s r (length out)) c w out h in
     let same : unfoldedReplayOf s w (length endOut) ≡ liftEndOf s r (length endOut)
     = unfolded-replay-by s n j w (length endOut) ∙ ap (λ (x : Answer). ended x (basic (netOf s) .conditions) (length endOut)) p
     ∙ sym (lift-end-by s n j r (length endOut) ∙ ap (λ (x : Answer). ended x (basic (netOf s) .conditions) (length endOut)) a) in
@@ -136,7 +121,7 @@ lift-taken-back s r out c h runOut endOut =
           ap (λ (x : List ℕ). projectOn s x runOut) on
           ∙ ap (λ (k : ℕ). take k (projectedOf s w runOut)) long
           ∙ ap (λ (x : List ℕ). take (length r) (written (projectOf s w (length runOut)) x runOut)) (ap numbersOf p)
-          ∙ front (projectOf s w (length runOut)) (length r) r runOut (project-given s n j w r (length runOut) p g);
+          ∙ written-front (projectOf s w (length runOut)) (length r) r runOut (project-given s n j w r (length runOut) p g);
       end-answer = ap (λ (x : List ℕ). unfoldedReplayOf s x (length endOut)) on ∙ same;
       same-end = ap (λ (x : List ℕ). unfoldedReplayedOf s x endOut) on ∙ told s r w endOut same a;
     }
@@ -156,7 +141,7 @@ project-read-back s w out c h endOut =
     let on : projectOn s w out ≡ r
     = ap (λ (k : ℕ). take k (projectedOf s w out)) (sym long)
     ∙ ap (λ (x : List ℕ). take (length r) (written (projectOf s w (length out)) x out)) (ap numbersOf a)
-    ∙ front (projectOf s w (length out)) c r out h in
+    ∙ written-front (projectOf s w (length out)) c r out h in
     record {
       unfolded = p .unfolded;
       back = on ∙ sym (p .back);

@@ -5,7 +5,6 @@ use mathlib.Core.Path.{_≡_, sym, ap, ap₂, _∙_}
 use mathlib.Core.Bool.{Bool}
 use mathlib.Core.List.{List, _++_}
 use lib.ListN.{length, getD, drop, replicate}
-use borrow.Author.Tests.{le-leb, lt-leb}
 use Rattle.model.specs.Net.{Marking, begin}
 use Rattle.model.specs.Lent.{bytes, marking}
 use Rattle.model.specs.Unfolding.{basic}
@@ -14,8 +13,8 @@ use Rattle.model.proofs.Counts.{count-conditions}
 use Rattle.refusal.specs.declared.Refusal.{Refusal}
 use Rattle.refusal.specs.declared.Judged.{Judged}
 use Rattle.refusal.specs.declared.Judged.the-variants.{Fine, Refused}
-use Rattle.refusal.specs.Answer.{refusedAt, fitting, written}
-use Rattle.refusal.proofs.Chain.{need-passes, need-refuses}
+use Rattle.refusal.specs.Answer.{refusedAt, written}
+use Rattle.refusal.proofs.Chain.{fitting-room, fitting-short}
 use Rattle.words.specs.Words.{wordAt}
 use Rattle.table.specs.Walk.{judgeOf}
 use Rattle.table.specs.Decoded.{netOf}
@@ -71,10 +70,10 @@ module _ (s out : List ℕ) where
 
   module _ (u : (own : Judged) → unfoldingOf s own ≡ own) (count : ℕ) (c : count ≡ basic (netOf s) .conditions) where
     pub start-short : length out < count → refusedAt 16 count ≡ unfoldedStartOf s (length out)
-    unfolding unfoldedStartOf fitting
+    unfolding unfoldedStartOf
     start-short h =
-        ap (refusedAt 16) c ∙ sym (u _ ∙ need-refuses 16 (basic (netOf s) .conditions) (Fine (basic (netOf s) .conditions)) (lt-leb (basic (netOf s) .conditions) (length out) (omega arith)))
+        ap (refusedAt 16) c ∙ sym (u _ ∙ fitting-short (basic (netOf s) .conditions) (length out) (omega arith))
 
     pub start-room : count ≤ length out → Fine count ≡ unfoldedStartOf s (length out)
-    unfolding unfoldedStartOf fitting
-    start-room h = ap Fine c ∙ sym (u _ ∙ need-passes 16 (basic (netOf s) .conditions) (le-leb (basic (netOf s) .conditions) (length out) (omega arith)))
+    unfolding unfoldedStartOf
+    start-room h = ap Fine c ∙ sym (u _ ∙ fitting-room (basic (netOf s) .conditions) (length out) (omega arith))
