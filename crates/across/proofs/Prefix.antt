@@ -7,12 +7,12 @@ use mathlib.Core.Option.{Option, none, some}
 use lib.Dec.{leb}
 use lib.ListN.{length}
 use borrow.Author.Tests.{le-leb, lt-leb}
-use Rattle.model.specs.Across.{Refusal, Answer, unless, mostSteps, tooLong, unfoldingRefused}
+use Rattle.model.specs.Across.{Refusal, Answer, run, refusal, unless, mostSteps, tooLong, unfoldingRefused}
 use Rattle.refusal.specs.declared.Refusal as declared
 use Rattle.refusal.specs.declared.Judged.{Judged}
 use Rattle.refusal.specs.declared.Judged.the-variants.{Fine, Refused}
 use Rattle.refusal.specs.Answer.{refusedAt, need, andThen}
-use Rattle.refusal.proofs.Chain.{never-both, then-fine, need-passes, need-refuses}
+use Rattle.refusal.proofs.Chain.{never-both, then-fine, need-passes, need-refuses, fitting-fine}
 use Rattle.table.specs.Walk.{judgeOf}
 use Rattle.table.specs.Decoded.{netOf}
 use Rattle.layout.specs.Unfolds.{refusedOr, unfoldingOf}
@@ -108,6 +108,17 @@ ended-link : (o : Option Refusal) (a : Answer) (c room : ℕ) → ended (unless 
 unfolding ended
 ended-link none a c room = refl
 ended-link (some x) a c room = refl
+
+-- a fine answer is a run that has room
+pub fitted-fine : (a : Answer) (room c : ℕ) → fitted a room ≡ Fine c → (w : List ℕ) × (a ≡ run w) × (c ≡ length w) × (length w ≤ room)
+unfolding fitted
+fitted-fine (run w) room c e = let x = fitting-fine (length w) room c e in (w, refl, x .0, x .1)
+fitted-fine (refusal x) room c e = never-both (sym e)
+
+pub ended-fine : (a : Answer) (count room c : ℕ) → ended a count room ≡ Fine c → (w : List ℕ) × (a ≡ run w) × (c ≡ count) × (count ≤ room)
+unfolding ended
+ended-fine (run w) count room c e = let x = fitting-fine count room c e in (w, refl, x .0, x .1)
+ended-fine (refusal x) count room c e = never-both (sym e)
 
 -- what the model refuses first is the prefix
 pub fitted-across : (s r : List ℕ) (a : Answer) (room : ℕ)

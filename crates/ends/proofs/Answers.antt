@@ -2,10 +2,8 @@
 use Prim.Native.Nat.{ℕ, _-_, _≤_}
 use native.Mathlib.Omega.{arith}
 use mathlib.Core.Path.{_≡_, refl, sym, ap, _∙_, fun-ext}
-use mathlib.Core.Bool.{Bool}
 use mathlib.Core.Option.{Option, none, some}
 use mathlib.Core.List.{List, _++_}
-use lib.Dec.{leb}
 use lib.ListN.{length, take, drop, length-append}
 use lib.Seq.{take-append-seam, take-all}
 use Rattle.lists.specs.Lists.{mem}
@@ -21,8 +19,8 @@ use Rattle.model.proofs.Demands.{lift-project, lift-most}
 use Rattle.refusal.specs.declared.Refusal as declared
 use Rattle.refusal.specs.declared.Judged.{Judged}
 use Rattle.refusal.specs.declared.Judged.the-variants.{Fine, Refused}
-use Rattle.refusal.specs.Answer.{need, andThen, fitting, written}
-use Rattle.refusal.proofs.Chain.{never-both, need-fine, then-fine, fitting-room}
+use Rattle.refusal.specs.Answer.{andThen, fitting, written}
+use Rattle.refusal.proofs.Chain.{never-both, then-fine, fitting-room}
 use Rattle.table.specs.Walk.{judgeOf}
 use Rattle.table.specs.Decoded.{netOf}
 use Rattle.table.proofs.Sound.{accepted-sound}
@@ -31,7 +29,7 @@ use Rattle.copies.specs.Copies.{copiesOf}
 use Rattle.copies.proofs.Ends.{copies-end}
 use Rattle.across.specs.Calls.{fitted, ended, acrossOf}
 use Rattle.across.specs.Prepared.{preparedOf}
-use Rattle.across.proofs.Prefix.{across-passed, across-on, ended-across}
+use Rattle.across.proofs.Prefix.{across-passed, across-on, ended-across, fitted-fine}
 use Rattle.lift.specs.Calls.{liftOf, liftedOf}
 use Rattle.project.specs.Walked.{Replayed}
 use Rattle.ends.specs.Calls.{unfoldedReplayOf, unfoldedReplayedOf, liftEndOf, liftEndedOf}
@@ -108,14 +106,6 @@ unfolding fitted ended
 same-refusal (run w) c room h e = never-both (sym (fitting-room (length w) mostSteps (h w refl)) ∙ e)
 same-refusal (refusal y) c room h e = refl
 
-fitted-run : (a : Answer) (room v : ℕ) → fitted a room ≡ Fine v → (w : List ℕ) × (a ≡ run w) × (v ≡ length w)
-unfolding fitted fitting
-fitted-run (run w) room v e = (w, refl, fine (leb (length w) room) e)
-  where
-    fine : (b : Bool) → need b 16 (length w) (Fine (length w)) ≡ Fine v → v ≡ length w
-    fine b e = let z = need-fine b 16 (length w) v (Fine (length w)) e in cc
-fitted-run (refusal x) room v e = never-both (sym e)
-
 -- what the lift wrote is part of its output
 written-as : (s r old lifted w : List ℕ) (steps : ℕ) → lifted ≡ liftedOf s r old → liftOf s r (length old) ≡ Fine steps → lift (netOf s) r ≡ run w → lifted ≡ w ++ drop (length w) old
 unfolding liftedOf
@@ -154,7 +144,7 @@ module _ (s r out : List ℕ) where
   unfolding liftOf liftedOf
   lift-ends steps lifted old h size is q new a b =
       let (n, j, f) = then-fine (judgeOf s) (λ _. fitted (lift (netOf s) r) mostSteps) steps h in
-      let (w, g, u) = fitted-run (lift (netOf s) r) mostSteps steps f in
+      let (w, g, u, v) = fitted-fine (lift (netOf s) r) mostSteps steps f in
       let room : liftOf s r (length old) ≡ Fine steps = ap (liftOf s r) size ∙ h in
       let part : take (steps - 0) lifted ≡ w = front s r old lifted w steps is room g u in
       let ends = end-as n w j g in
@@ -164,7 +154,7 @@ pub lift-within : (s r lifted old : List ℕ) (steps : ℕ) → liftOf s r mostS
 unfolding liftOf
 lift-within s r lifted old steps h size is =
     let (n, j, f) = then-fine (judgeOf s) (λ _. fitted (lift (netOf s) r) mostSteps) steps h in
-    let (w, g, u) = fitted-run (lift (netOf s) r) mostSteps steps f in
+    let (w, g, u, v) = fitted-fine (lift (netOf s) r) mostSteps steps f in
     let room : liftOf s r (length old) ≡ Fine steps = ap (liftOf s r) size ∙ h in
     let long = ap length (written-as s r old lifted w steps is room g) ∙ length-append w (drop (length w) old) in
     omega (arith, u, long)

@@ -10,14 +10,14 @@ use Rattle.model.specs.Net.{begin}
 use Rattle.model.specs.Runs.{end}
 use Rattle.model.specs.Lent.{bytes}
 use Rattle.model.specs.Unfolding.{basic}
-use Rattle.model.specs.Across.{Answer, run, refusal, lift, project, mostSteps, mostUnfolded}
+use Rattle.model.specs.Across.{run, lift, project, mostSteps, mostUnfolded}
 use Rattle.model.proofs.Lent.{length-bytes, bytes-at, bytes-are}
 use Rattle.model.proofs.Demands.{lift-lifts, lift-length}
 use Rattle.refusal.specs.declared.Refusal.{Refusal}
 use Rattle.refusal.specs.declared.Judged.{Judged}
 use Rattle.refusal.specs.declared.Judged.the-variants.{Fine, Refused}
 use Rattle.refusal.specs.Answer.{need, andThen, written}
-use Rattle.refusal.proofs.Chain.{passed-up, goes-on, never-both, need-fine, then-fine, fitting-fine, written-front}
+use Rattle.refusal.proofs.Chain.{passed-up, goes-on, never-both, need-fine, then-fine, written-front}
 use Rattle.records.specs.Records.{conditions}
 use Rattle.table.specs.Walk.{judgeOf}
 use Rattle.table.specs.Decoded.{netOf}
@@ -30,6 +30,7 @@ use Rattle.runs.specs.Runs.{runKind, runOf, readAnswer}
 use Rattle.runs.proofs.Judging.{length-run}
 use Rattle.runs.proofs.Answers.{read-fine}
 use Rattle.across.specs.Calls.{fitted, numbersOf, ended}
+use Rattle.across.proofs.Prefix.{fitted-fine, ended-fine}
 use Rattle.lift.specs.Calls.{liftOf, liftedOf}
 use Rattle.ends.specs.Calls.{unfoldedReplayOf, unfoldedReplayedOf}
 use Rattle.listing.specs.Calls.{mostNetBytes, mostRunBytes, filesOf}
@@ -67,16 +68,6 @@ same-fine n m answer e f = let x : Fine n ≡ Fine m = sym e ∙ f in cc
 
 -- ---- the lift and its end
 
-fitted-fine : (a : Answer) (room c : ℕ) → fitted a room ≡ Fine c → (w : List ℕ) × (a ≡ run w) × (c ≡ length w) × (length w ≤ room)
-unfolding fitted
-fitted-fine (run w) room c e = let x = fitting-fine (length w) room c e in (w, refl, x .0, x .1)
-fitted-fine (refusal x) room c e = never-both (sym e)
-
-ended-fine : (a : Answer) (count room c : ℕ) → ended a count room ≡ Fine c → (c ≡ count) × (count ≤ room)
-unfolding ended
-ended-fine (run w) count room c e = fitting-fine count room c e
-ended-fine (refusal x) count room c e = never-both (sym e)
-
 -- What a fine lift has told.
 pub record Lifted (s r : List ℕ) (count : ℕ) : Type 0 where
   pub numbers : List ℕ
@@ -100,7 +91,7 @@ unfolding unfoldedReplayOf
 replay-sizes s w room u e =
     let (n, j, f) = then-fine (judgeOf s) (λ _. ended (project (netOf s) w) (basic (netOf s) .conditions) room) u e in
     let x = ended-fine (project (netOf s) w) (basic (netOf s) .conditions) room u f in
-    (x .0, omega (arith, x .0, x .1))
+    (x .2, omega (arith, x .2, x .3))
 
 replay-front : (s r was out : List ℕ) (u : ℕ) → length was ≡ mostUnfolded → unfoldedReplayOf s (liftedRun s r) mostUnfolded ≡ Fine u
     → out ≡ unfoldedReplayedOf s (liftedRun s r) was → take u out ≡ endBytes s r

@@ -11,7 +11,7 @@ use Rattle.model.specs.Net.{Net, begin}
 use Rattle.model.specs.Runs.{opening, replay}
 use Rattle.model.specs.Unfolding.{basic}
 use Rattle.model.specs.Numbering.{size}
-use Rattle.model.specs.Across.{Refusal, Answer, run, refusal, unless, stuck, tooLong, unfoldingRefused, readBack, projecting, project}
+use Rattle.model.specs.Across.{Refusal, Answer, run, unless, stuck, tooLong, unfoldingRefused, readBack, projecting, project}
 use Rattle.model.proofs.Firing.{runs-event}
 use Rattle.model.proofs.Answers.{unless-run, projecting-run, run-projecting}
 use Rattle.model.proofs.Project.{length-back}
@@ -27,7 +27,7 @@ use Rattle.layout.specs.Laid.{Sums}
 use Rattle.game.specs.Calls.{passing}
 use Rattle.across.specs.Calls.{fitted, numbersOf, acrossOf}
 use Rattle.across.specs.Prepared.{preparedOf, Ready}
-use Rattle.across.proofs.Prefix.{across-passed, across-on, across-judged, fitted-across}
+use Rattle.across.proofs.Prefix.{across-passed, across-on, across-judged, fitted-across, fitted-fine}
 use Rattle.project.specs.Calls.{projectOf, projectedOf}
 use Rattle.project.specs.Walked.{Replayed, Reading, Read}
 use Rattle.project.proofs.Located.{total}
@@ -35,11 +35,6 @@ use Rattle.project.proofs.Walks.{few-judged}
 use Rattle.project.proofs.Back.{read-is}
 
 -- ---- answers of the model
-
-fitted-run : (a : Answer) (room v : ℕ) → fitted a room ≡ Fine v → (w : List ℕ) × (a ≡ run w)
-unfolding fitted
-fitted-run (run w) room v e = (w, refl)
-fitted-run (refusal x) room v e = never-both (sym e)
 
 -- a replay that is refused is the answer of the projection
 stuck-fitted : (o : Option Refusal) (a : Answer) (k room : ℕ) (p : Judged) {x : declared.Refusal} → p ≡ passing o (Fine k) → p ≡ Refused x → p ≡ fitted (unless o a) room
@@ -67,7 +62,7 @@ module _ (s w out : List ℕ) where
   unfolding projectOf project
   numbers-are v fine =
       let y = then-fine (judgeOf s) (λ _. fitted (project n w) (length out)) v fine in
-      let g = fitted-run (project n w) (length out) v (y .2) in
+      let g = fitted-fine (project n w) (length out) v (y .2) in
       let a = unless-run (tooLong w) (unless (unfoldingRefused n) (projecting n w)) (g .0) (g .1) in
       let b = unless-run (unfoldingRefused n) (projecting n w) (g .0) (a .1) in
       ap numbersOf (g .1) ∙ sym (projecting-run n w (g .0) (b .1) .1)

@@ -25,7 +25,7 @@ use Rattle.refusal.specs.declared.Judged.{Judged}
 use Rattle.refusal.specs.declared.Judged.the-variants.{Fine}
 use Rattle.refusal.specs.Answer as refused
 use Rattle.refusal.specs.Answer.{refusedAt, need, fitting, written}
-use Rattle.refusal.proofs.Chain.{never-both, need-passes, then-fine, fitting-room, fitting-fine, written-front}
+use Rattle.refusal.proofs.Chain.{never-both, need-passes, then-fine, fitting-room, written-front}
 use Rattle.table.specs.Walk.{judgeOf}
 use Rattle.table.specs.Decoded.{netOf}
 use Rattle.table.proofs.Sound.{accepted-sound}
@@ -33,24 +33,12 @@ use Rattle.game.specs.Calls.{passing, leaves}
 use Rattle.replay.specs.Calls.{playedOf, replayOf}
 use Rattle.exchange.specs.Calls.{swapping, exchangeOf, exchangedOf}
 use Rattle.across.specs.Calls.{fitted, numbersOf, ended}
+use Rattle.across.proofs.Prefix.{fitted-fine, ended-fine}
 use Rattle.lift.specs.Calls.{liftOf, liftedOf}
 use Rattle.ends.specs.Calls.{liftEndOf, liftEndedOf, unfoldedReplayOf, unfoldedReplayedOf}
 use Rattle.project.specs.Calls.{projectOf, projectedOf}
 use Rattle.promises.specs.Across.{liftOn, projectOn, TakenBack, ReadBack, TakenExactly, TurnedAway, LiftedAlike}
 use Rattle.promises.proofs.Game.{swapping-fine}
-
--- ---- room
-
--- a fine answer is a run that has room
-fitted-fine : (a : Answer) (room c : ℕ) → fitted a room ≡ Fine c → (w : List ℕ) × (a ≡ run w) × (c ≡ length w) × (length w ≤ room)
-unfolding fitted
-fitted-fine (run w) room c e = let x = fitting-fine (length w) room c e in (w, refl, x .0, x .1)
-fitted-fine (refusal x) room c e = never-both (sym e)
-
-ended-fine : (a : Answer) (count room c : ℕ) → ended a count room ≡ Fine c → (w : List ℕ) × (a ≡ run w) × (c ≡ count) × (count ≤ room)
-unfolding ended
-ended-fine (run w) count room c e = let x = fitting-fine count room c e in (w, refl, x .0, x .1)
-ended-fine (refusal x) count room c e = never-both (sym e)
 
 -- ---- the calls on a judged table, by the model's answers
 
