@@ -15,16 +15,12 @@ use Rattle.refusal.specs.Answer.{refusedAt, need, andThen}
 use Rattle.refusal.proofs.Chain.{never-both, then-fine, need-passes, need-refuses, fitting-fine}
 use Rattle.table.specs.Walk.{judgeOf}
 use Rattle.table.specs.Decoded.{netOf}
-use Rattle.layout.specs.Unfolds.{refusedOr, unfoldingOf}
-use Rattle.game.specs.Calls.{passing}
+use Rattle.table.specs.Links.{refusedOr}
+use Rattle.layout.specs.Unfolds.{unfoldingOf}
 use Rattle.across.specs.Calls.{fitted, ended, acrossOf}
 use Rattle.across.specs.Prepared.{preparedOf}
 
 -- ---- the prefix, by what is known of the run
-
-same-link : (o : Option Refusal) (own : Judged) → passing o own ≡ refusedOr o own
-same-link none own = refl
-same-link (some x) own = refl
 
 pub prepared-refused : (s : List ℕ) (steps : ℕ) (own : Judged) {r : Judged} {x : declared.Refusal} → r ≡ judgeOf s → r ≡ Refused x → r ≡ preparedOf s steps own
 unfolding preparedOf
@@ -32,23 +28,23 @@ prepared-refused s steps own e t = t ∙ simp (sym e ∙ t)
 
 pub prepared-long : (s : List ℕ) (steps : ℕ) (own : Judged) (k : ℕ) → judgeOf s ≡ Fine k → mostSteps < steps → refusedAt 3 0 ≡ preparedOf s steps own
 unfolding preparedOf
-prepared-long s steps own k j h = sym (simp j (need-refuses 3 0 (passing (unfoldingRefused (netOf s)) own) (lt-leb steps mostSteps h)))
+prepared-long s steps own k j h = sym (simp j (need-refuses 3 0 (refusedOr (unfoldingRefused (netOf s)) own) (lt-leb steps mostSteps h)))
 
 pub prepared-short : (s : List ℕ) (steps : ℕ) (own : Judged) → steps ≤ mostSteps → unfoldingOf s own ≡ preparedOf s steps own
 unfolding preparedOf unfoldingOf
 prepared-short s steps own h = go (judgeOf s)
   where
-    go : (j : Judged) → andThen j (λ _. refusedOr (unfoldingRefused (netOf s)) own) ≡ andThen j (λ _. need (leb steps mostSteps) 3 0 (passing (unfoldingRefused (netOf s)) own))
-    go (Fine k) = sym (need-passes 3 0 (le-leb steps mostSteps h) ∙ same-link (unfoldingRefused (netOf s)) own)
+    go : (j : Judged) → andThen j (λ _. refusedOr (unfoldingRefused (netOf s)) own) ≡ andThen j (λ _. need (leb steps mostSteps) 3 0 (refusedOr (unfoldingRefused (netOf s)) own))
+    go (Fine k) = sym (need-passes 3 0 (le-leb steps mostSteps h))
     go (Refused x) = refl
 
 -- ---- the same prefix over a run
 
-long-link : (r : List ℕ) (own : Judged) → passing (tooLong r) own ≡ need (leb (length r) mostSteps) 3 0 own
+long-link : (r : List ℕ) (own : Judged) → refusedOr (tooLong r) own ≡ need (leb (length r) mostSteps) 3 0 own
 unfolding tooLong need
 long-link r own = go (leb (length r) mostSteps)
   where
-    go : (b : Bool) → passing (mathlib.Core.Bool.cond b none (some (Rattle.model.specs.Across.other 3 0))) own ≡ need b 3 0 own
+    go : (b : Bool) → refusedOr (mathlib.Core.Bool.cond b none (some (Rattle.model.specs.Across.other 3 0))) own ≡ need b 3 0 own
     go true = refl
     go false = refl
 
@@ -56,21 +52,21 @@ pub across-is : (s r : List ℕ) (own : Judged) → acrossOf s r own ≡ prepare
 unfolding acrossOf preparedOf
 across-is s r own = go (judgeOf s)
   where
-    go : (j : Judged) → andThen j (λ _. passing (tooLong r) (passing (unfoldingRefused (netOf s)) own)) ≡ andThen j (λ _. need (leb (length r) mostSteps) 3 0 (passing (unfoldingRefused (netOf s)) own))
-    go (Fine k) = long-link r (passing (unfoldingRefused (netOf s)) own)
+    go : (j : Judged) → andThen j (λ _. refusedOr (tooLong r) (refusedOr (unfoldingRefused (netOf s)) own)) ≡ andThen j (λ _. need (leb (length r) mostSteps) 3 0 (refusedOr (unfoldingRefused (netOf s)) own))
+    go (Fine k) = long-link r (refusedOr (unfoldingRefused (netOf s)) own)
     go (Refused x) = refl
 
 -- ---- the prefix, then the call's own
 
-chain-passed : (j : Judged) (b : Bool) (o : Option Refusal) (own : Judged) (k : ℕ) {x : declared.Refusal} → andThen j (λ _. need b 3 0 (passing o (Fine k))) ≡ Refused x
-    → andThen j (λ _. need b 3 0 (passing o (Fine k))) ≡ andThen j (λ _. need b 3 0 (passing o own))
+chain-passed : (j : Judged) (b : Bool) (o : Option Refusal) (own : Judged) (k : ℕ) {x : declared.Refusal} → andThen j (λ _. need b 3 0 (refusedOr o (Fine k))) ≡ Refused x
+    → andThen j (λ _. need b 3 0 (refusedOr o (Fine k))) ≡ andThen j (λ _. need b 3 0 (refusedOr o own))
 unfolding need
 chain-passed (Refused y) b o own k e = refl
 chain-passed (Fine n) false o own k e = refl
 chain-passed (Fine n) true none own k e = never-both e
 chain-passed (Fine n) true (some y) own k e = refl
 
-chain-went : (j : Judged) (b : Bool) (o : Option Refusal) (own : Judged) (k m : ℕ) → andThen j (λ _. need b 3 0 (passing o (Fine k))) ≡ Fine m → (andThen j (λ _. need b 3 0 (passing o own)) ≡ own) × (m ≡ k)
+chain-went : (j : Judged) (b : Bool) (o : Option Refusal) (own : Judged) (k m : ℕ) → andThen j (λ _. need b 3 0 (refusedOr o (Fine k))) ≡ Fine m → (andThen j (λ _. need b 3 0 (refusedOr o own)) ≡ own) × (m ≡ k)
 unfolding need
 chain-went (Refused y) b o own k m e = never-both (sym e)
 chain-went (Fine n) false o own k m e = never-both (sym e)
@@ -95,16 +91,16 @@ module _ (s : List ℕ) (steps k : ℕ) {a : Judged} (e : a ≡ preparedOf s ste
   pub across-judged : {m : ℕ} → a ≡ Fine m → (j : ℕ) × (judgeOf s ≡ Fine j)
   unfolding preparedOf
   across-judged {m} t =
-      let q = then-fine (judgeOf s) (λ _. need (leb steps mostSteps) 3 0 (passing (unfoldingRefused (netOf s)) (Fine k))) m (sym e ∙ t) in (q .0, q .1)
+      let q = then-fine (judgeOf s) (λ _. need (leb steps mostSteps) 3 0 (refusedOr (unfoldingRefused (netOf s)) (Fine k))) m (sym e ∙ t) in (q .0, q .1)
 
 -- ---- the model's answers
 
-pub fitted-link : (o : Option Refusal) (a : Answer) (room : ℕ) → fitted (unless o a) room ≡ passing o (fitted a room)
+pub fitted-link : (o : Option Refusal) (a : Answer) (room : ℕ) → fitted (unless o a) room ≡ refusedOr o (fitted a room)
 unfolding fitted
 fitted-link none a room = refl
 fitted-link (some x) a room = refl
 
-ended-link : (o : Option Refusal) (a : Answer) (c room : ℕ) → ended (unless o a) c room ≡ passing o (ended a c room)
+ended-link : (o : Option Refusal) (a : Answer) (c room : ℕ) → ended (unless o a) c room ≡ refusedOr o (ended a c room)
 unfolding ended
 ended-link none a c room = refl
 ended-link (some x) a c room = refl
@@ -126,10 +122,10 @@ pub fitted-across : (s r : List ℕ) (a : Answer) (room : ℕ)
 unfolding acrossOf
 fitted-across s r a room = go (judgeOf s)
   where
-    links : fitted (unless (tooLong r) (unless (unfoldingRefused (netOf s)) a)) room ≡ passing (tooLong r) (passing (unfoldingRefused (netOf s)) (fitted a room))
-    links = fitted-link (tooLong r) (unless (unfoldingRefused (netOf s)) a) room ∙ ap (λ (x : Judged). passing (tooLong r) x) (fitted-link (unfoldingRefused (netOf s)) a room)
+    links : fitted (unless (tooLong r) (unless (unfoldingRefused (netOf s)) a)) room ≡ refusedOr (tooLong r) (refusedOr (unfoldingRefused (netOf s)) (fitted a room))
+    links = fitted-link (tooLong r) (unless (unfoldingRefused (netOf s)) a) room ∙ ap (λ (x : Judged). refusedOr (tooLong r) x) (fitted-link (unfoldingRefused (netOf s)) a room)
 
-    go : (j : Judged) → andThen j (λ _. fitted (unless (tooLong r) (unless (unfoldingRefused (netOf s)) a)) room) ≡ andThen j (λ _. passing (tooLong r) (passing (unfoldingRefused (netOf s)) (fitted a room)))
+    go : (j : Judged) → andThen j (λ _. fitted (unless (tooLong r) (unless (unfoldingRefused (netOf s)) a)) room) ≡ andThen j (λ _. refusedOr (tooLong r) (refusedOr (unfoldingRefused (netOf s)) (fitted a room)))
     go (Fine k) = links
     go (Refused x) = refl
 
@@ -138,9 +134,9 @@ pub ended-across : (s r : List ℕ) (a : Answer) (c room : ℕ)
 unfolding acrossOf
 ended-across s r a c room = go (judgeOf s)
   where
-    links : ended (unless (tooLong r) (unless (unfoldingRefused (netOf s)) a)) c room ≡ passing (tooLong r) (passing (unfoldingRefused (netOf s)) (ended a c room))
-    links = ended-link (tooLong r) (unless (unfoldingRefused (netOf s)) a) c room ∙ ap (λ (x : Judged). passing (tooLong r) x) (ended-link (unfoldingRefused (netOf s)) a c room)
+    links : ended (unless (tooLong r) (unless (unfoldingRefused (netOf s)) a)) c room ≡ refusedOr (tooLong r) (refusedOr (unfoldingRefused (netOf s)) (ended a c room))
+    links = ended-link (tooLong r) (unless (unfoldingRefused (netOf s)) a) c room ∙ ap (λ (x : Judged). refusedOr (tooLong r) x) (ended-link (unfoldingRefused (netOf s)) a c room)
 
-    go : (j : Judged) → andThen j (λ _. ended (unless (tooLong r) (unless (unfoldingRefused (netOf s)) a)) c room) ≡ andThen j (λ _. passing (tooLong r) (passing (unfoldingRefused (netOf s)) (ended a c room)))
+    go : (j : Judged) → andThen j (λ _. ended (unless (tooLong r) (unless (unfoldingRefused (netOf s)) a)) c room) ≡ andThen j (λ _. refusedOr (tooLong r) (refusedOr (unfoldingRefused (netOf s)) (ended a c room)))
     go (Fine k) = links
     go (Refused x) = refl

@@ -7,7 +7,7 @@ use Rattle.refusal.specs.declared.Judged.{Judged}
 use Rattle.refusal.specs.Answer.{refusedAt, andThen, fitting}
 use Rattle.table.specs.Walk.{judgeOf}
 use Rattle.table.specs.Decoded.{netOf}
-use Rattle.game.specs.Calls.{passing}
+use Rattle.table.specs.Links.{refusedOr}
 
 -- A model's answer as that of a call that writes it into a lent output with room for so many numbers: its refusal, else 16 (01,
 -- Refusal numbers).
@@ -27,4 +27,4 @@ ended (refusal x) c room = refusedAt (numberOf x) (placeOf x)
 
 -- A call on a run across: 1 to 9 of the table, 3, 13 and 14, then the call's own (01, Refusal numbers).
 unfoldable pub acrossOf : List ℕ → List ℕ → Judged → Judged
-acrossOf s r own = andThen (judgeOf s) (λ _. passing (tooLong r) (passing (unfoldingRefused (netOf s)) own))
+acrossOf s r own = andThen (judgeOf s) (λ _. refusedOr (tooLong r) (refusedOr (unfoldingRefused (netOf s)) own))

@@ -11,12 +11,12 @@ use Rattle.refusal.specs.declared.Judged.the-variants.{Fine}
 use Rattle.refusal.specs.Answer.{need, andThen}
 use Rattle.table.specs.Walk.{judgeOf}
 use Rattle.table.specs.Decoded.{netOf}
+use Rattle.table.specs.Links.{refusedOr}
 use Rattle.layout.specs.Laid.{Sums, Laid}
-use Rattle.game.specs.Calls.{passing}
 
 -- The same prefix for a run of which only the number of steps is known (01, Refusal numbers).
 unfoldable pub preparedOf : List ℕ → ℕ → Judged → Judged
-preparedOf s steps own = andThen (judgeOf s) (λ _. need (leb steps mostSteps) 3 0 (passing (unfoldingRefused (netOf s)) own))
+preparedOf s steps own = andThen (judgeOf s) (λ _. need (leb steps mostSteps) 3 0 (refusedOr (unfoldingRefused (netOf s)) own))
 
 -- The numbers of a table laid out for a run, and the run is short enough (01, Unfolding).
 pub record Ready (s : List ℕ) (steps : ℕ) (markers users bases before : List ℕ) : Type 0 where

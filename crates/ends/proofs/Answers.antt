@@ -23,8 +23,8 @@ use Rattle.refusal.specs.Answer.{andThen, fitting, written}
 use Rattle.refusal.proofs.Chain.{never-both, then-fine, fitting-room}
 use Rattle.table.specs.Walk.{judgeOf}
 use Rattle.table.specs.Decoded.{netOf}
+use Rattle.table.specs.Links.{refusedOr}
 use Rattle.table.proofs.Sound.{accepted-sound}
-use Rattle.game.specs.Calls.{passing}
 use Rattle.copies.specs.Copies.{copiesOf}
 use Rattle.copies.proofs.Ends.{copies-end}
 use Rattle.across.specs.Calls.{fitted, ended, acrossOf}
@@ -57,7 +57,7 @@ module _ (n : Net) (sound : Sound n) (w state seen : List ℕ) (p : Judged) (t :
 
 -- ---- an unfolded run replayed
 
-stuck-ended : (o : Option Refusal) (a : Answer) (k c room : ℕ) (p : Judged) {x : declared.Refusal} → p ≡ passing o (Fine k) → p ≡ Refused x → p ≡ ended (unless o a) c room
+stuck-ended : (o : Option Refusal) (a : Answer) (k c room : ℕ) (p : Judged) {x : declared.Refusal} → p ≡ refusedOr o (Fine k) → p ≡ Refused x → p ≡ ended (unless o a) c room
 unfolding ended
 stuck-ended none a k c room p e t = never-both (sym e ∙ t)
 stuck-ended (some y) a k c room p e t = e

@@ -20,18 +20,18 @@ use Rattle.refusal.specs.declared.Refusal as table
 use Rattle.refusal.specs.declared.Judged.{Judged}
 use Rattle.refusal.specs.declared.Judged.the-variants.{Fine, Refused}
 use Rattle.refusal.specs.Answer.{refusedAt}
-use Rattle.refusal.proofs.Chain.{never-both}
 use Rattle.table.specs.Walk.{judgeOf}
 use Rattle.table.specs.Decoded.{netOf}
 use Rattle.table.proofs.Decoded.{net-judged}
 use Rattle.model.specs.Lent.{marking}
-use Rattle.game.specs.Calls.{passing}
+use Rattle.table.specs.Links.{refusedOr}
+use Rattle.table.proofs.Links.{links-open, links-refused, links-fine}
 use Rattle.played.specs.Begun.{begunAt}
 use Rattle.exchange.specs.Calls.{swapping, exchangeOf, exchangedOf}
 use Rattle.apart.specs.Found.{Found}
 use Rattle.exchange.specs.Played.{Exchangeable}
 use Rattle.played.specs.Played.{Plays}
-use Rattle.played.proofs.Passing.{left-refused, passing-refused, passing-fine}
+use Rattle.played.proofs.Passing.{left-refused}
 
 -- ---- a run and the steps before k
 
@@ -100,14 +100,9 @@ put-back k r y e =
 
 -- ---- the chain of refusals
 
-swapping-unless : (o : Option Refusal) (a : Answer) → swapping (unless o a) ≡ passing o (swapping a)
+swapping-unless : (o : Option Refusal) (a : Answer) → swapping (unless o a) ≡ refusedOr o (swapping a)
 swapping-unless none a = refl
 swapping-unless (some x) a = refl
-
-passing-none : (a b : Option Refusal) (c x : ℕ) → passing a (passing b (Fine c)) ≡ Fine x → (a ≡ none) × (b ≡ none)
-passing-none none none c x e = (refl, refl)
-passing-none none (some y) c x e = never-both (sym e)
-passing-none (some y) b c x e = never-both (sym e)
 
 module _ (s r : List ℕ) (k : ℕ) where
   -- a refusal leaves the run as it was
@@ -119,28 +114,28 @@ module _ (s r : List ℕ) (k : ℕ) where
     abbrev rest : Judged
     rest = swapping (unless (noStep r k) (unless (notApart (netOf s) r k) (run (exchanged k r))))
 
-    chain : exchangeOf s r k ≡ passing (tooLong r) (passing (stuck (replay (netOf s) 0 (begunAt (netOf s) (begin (netOf s))) r)) rest)
+    chain : exchangeOf s r k ≡ refusedOr (tooLong r) (refusedOr (stuck (replay (netOf s) 0 (begunAt (netOf s) (begin (netOf s))) r)) rest)
     unfolding exchangeOf exchange exchanging opening begunAt begin
     chain =
         simp j (swapping-unless (tooLong r) (exchanging (netOf s) r k)
-        ∙ ap (passing (tooLong r)) (swapping-unless (stuck (replay (netOf s) 0 (opening (netOf s)) r)) (unless (noStep r k) (unless (notApart (netOf s) r k) (run (exchanged k r))))))
+        ∙ ap (refusedOr (tooLong r)) (swapping-unless (stuck (replay (netOf s) 0 (opening (netOf s)) r)) (unless (noStep r k) (unless (notApart (netOf s) r k) (run (exchanged k r))))))
 
     module _ (answer : Judged) (l : List ℕ) (p : Plays (netOf s) (begin (netOf s)) r answer l) where
       pub stopped-run : (x : table.Refusal) → answer ≡ Refused x → (answer ≡ exchangeOf s r k) × (r ≡ exchangedOf s r k)
       stopped-run x e =
           kept-run answer x e
-          (p .told ∙ passing-refused (tooLong r) (stuck (replay (netOf s) 0 (begunAt (netOf s) (begin (netOf s))) r)) (netOf s .conditions) rest x (sym (p .told) ∙ e) ∙ sym chain)
+          (p .told ∙ links-refused (tooLong r) (stuck (replay (netOf s) 0 (begunAt (netOf s) (begin (netOf s))) r)) (netOf s .conditions) rest x (sym (p .told) ∙ e) ∙ sym chain)
 
       module _ (y : ℕ) (e : answer ≡ Fine y) where
         pub whole-run : T (runs (netOf s) (begin (netOf s)) r) × (length r ≤ mostSteps)
         unfolding begunAt
         whole-run =
-            let (a, b) = passing-none (tooLong r) (stuck (replay (netOf s) 0 (begunAt (netOf s) (begin (netOf s))) r)) (netOf s .conditions) y (sym (p .told) ∙ e) in
+            let (a, b) = links-open (tooLong r) (stuck (replay (netOf s) 0 (begunAt (netOf s) (begin (netOf s))) r)) (netOf s .conditions) y (sym (p .told) ∙ e) in
             (not-stuck (netOf s) 0 (begunAt (netOf s) (begin (netOf s))) r b, short-length r a)
 
         goes : rest ≡ exchangeOf s r k
         goes =
-            passing-fine (tooLong r) (stuck (replay (netOf s) 0 (begunAt (netOf s) (begin (netOf s))) r)) (netOf s .conditions) y rest (sym (p .told) ∙ e) .1
+            links-fine (tooLong r) (stuck (replay (netOf s) 0 (begunAt (netOf s) (begin (netOf s))) r)) (netOf s .conditions) y rest (sym (p .told) ∙ e) .1
             ∙ sym chain
 
         pub no-step : ltb (suc k) (length r) ≡ false → refusedAt 10 k ≡ exchangeOf s r k

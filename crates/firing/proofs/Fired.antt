@@ -14,13 +14,14 @@ use Rattle.model.specs.Unfolding.{unfoldedConditions, basic}
 use Rattle.model.specs.Numbering.{conditionCount}
 use Rattle.model.proofs.Unfolded.{in-pre, in-post}
 use Rattle.model.proofs.Counts.{count-conditions}
+use Rattle.table.specs.Links.{refusedOr}
 use Rattle.tally.specs.Having.{listOf}
 use Rattle.model.specs.Lent.{bit, bytes, marking}
 use Rattle.model.proofs.Lent.{bytes-are}
 use Rattle.refusal.specs.declared.Judged.the-variants.{Fine}
 use Rattle.step.specs.Lent.{Lent}
 use Rattle.step.specs.Steps.{setAll, stepped}
-use Rattle.game.specs.Calls.{passing, stoppedAt, leaves}
+use Rattle.game.specs.Calls.{stoppedAt, leaves}
 use Rattle.step.proofs.Bytes.{lent-at}
 use Rattle.step.proofs.Firing.{length-all, all-at}
 use Rattle.walking.specs.declared.Cause.{Cause}
@@ -95,12 +96,12 @@ list-inside n j false b t = at-lt (unfoldedConditions n) b (in-pre n j b t .1)
 
 -- ---- the call
 
-pub answers : (o : Option Stop) (c : ℕ) → answeredOf (stepOf o) c ≡ passing (stoppedAt 0 o) (Fine c)
+pub answers : (o : Option Stop) (c : ℕ) → answeredOf (stepOf o) c ≡ refusedOr (stoppedAt 0 o) (Fine c)
 answers none c = refl
 answers (some unknown) c = refl
 answers (some (lacks b)) c = refl
 answers (some (meets b)) c = refl
 
-pub leaves-so : (o : Option Stop) (c : ℕ) (new old : List ℕ) → stepped o new old ≡ leaves (passing (stoppedAt 0 o) (Fine c)) new old
+pub leaves-so : (o : Option Stop) (c : ℕ) (new old : List ℕ) → stepped o new old ≡ leaves (refusedOr (stoppedAt 0 o) (Fine c)) new old
 leaves-so none c new old = refl
 leaves-so (some v) c new old = refl

@@ -19,6 +19,7 @@ use Rattle.refusal.specs.Answer.{refusedAt}
 use Rattle.refusal.proofs.Chain.{never-both}
 use Rattle.records.specs.Records.{conditions}
 use Rattle.table.specs.Decoded.{netOf}
+use Rattle.table.specs.Links.{refusedOr}
 use Rattle.layout.specs.Unfolds.{unfoldingOf}
 use Rattle.layout.specs.Laid.{LaidOut}
 use Rattle.layout.proofs.Limits.{unfolds-passed, unfolds-on, unfolds-judged}
@@ -26,7 +27,7 @@ use Rattle.unfolding.specs.Numbers.{Owner}
 use Rattle.unfolding.proofs.Calls.{conditions-count}
 use Rattle.unfolding.proofs.Numbered.{events-basic}
 use Rattle.game.specs.Lent.{firstAbove, lent}
-use Rattle.game.specs.Calls.{passing, stoppedAt, leaves}
+use Rattle.game.specs.Calls.{stoppedAt, leaves}
 use Rattle.step.specs.Steps.{stepped}
 use Rattle.step.proofs.Bytes.{lent-of}
 use Rattle.game.proofs.Marked.{wrong-length, byte-above, all-right}
@@ -107,12 +108,12 @@ module _ (s m : List ℕ) (j : ℕ) (r : Judged) (ms us bs : List ℕ) (o : Lend
   pub fire-refused : (x : Refusal) → r ≡ Refused x → (r ≡ unfoldedFireOf s m j) × (m ≡ unfoldedFiredOf s m j)
   unfolding unfoldedFireOf unfoldedFiredOf
   fire-refused x t =
-      let own = passing (stoppedAt 0 (stopping (basic (netOf s)) (marking m) j)) (Fine (basic (netOf s) .conditions)) in
+      let own = refusedOr (stoppedAt 0 (stopping (basic (netOf s)) (marking m) j)) (Fine (basic (netOf s) .conditions)) in
       let a = o .refuses own x t in
       (a, sym (ap (λ (y : Judged). leaves y (bytes (basic (netOf s) .conditions) (fire (basic (netOf s)) (marking m) j)) m) (sym a ∙ t)))
 
   module _ (k : ℕ) (t : r ≡ Fine k) where
-    is-own : unfoldedFireOf s m j ≡ passing (stoppedAt 0 (stopping (basic (netOf s)) (marking m) j)) (Fine (basic (netOf s) .conditions))
+    is-own : unfoldedFireOf s m j ≡ refusedOr (stoppedAt 0 (stopping (basic (netOf s)) (marking m) j)) (Fine (basic (netOf s) .conditions))
     unfolding unfoldedFireOf
     is-own = o .goes _ k t
 
@@ -131,7 +132,7 @@ module _ (s m : List ℕ) (j : ℕ) (r : Judged) (ms us bs : List ℕ) (o : Lend
       unfolding unfoldedFiredOf
       fire-answers x c a after ic ix ia e =
           let i = o .long k t in
-          let told : a ≡ passing (stoppedAt 0 (stopping (basic (netOf s)) (marking m) j)) (Fine (basic (netOf s) .conditions))
+          let told : a ≡ refusedOr (stoppedAt 0 (stopping (basic (netOf s)) (marking m) j)) (Fine (basic (netOf s) .conditions))
           = e ∙ rw (ix, ic ∙ i, w .left) (answers (stopping (basic (netOf s)) (marking m) j) (basic (netOf s) .conditions)) in
           let new = bytes (basic (netOf s) .conditions) (fire (basic (netOf s)) (marking m) j) in
           (told ∙ sym is-own, ia ∙ rw (w .left) (leaves-so (stopping (basic (netOf s)) (marking m) j) (basic (netOf s) .conditions) new m) ∙ ap (λ (y : Judged). leaves y new m) (sym is-own))

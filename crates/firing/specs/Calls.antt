@@ -7,16 +7,17 @@ use Rattle.model.specs.Lent.{bytes, marking}
 use Rattle.refusal.specs.declared.Judged.{Judged}
 use Rattle.refusal.specs.declared.Judged.the-variants.{Fine}
 use Rattle.table.specs.Decoded.{netOf}
+use Rattle.table.specs.Links.{refusedOr}
 use Rattle.layout.specs.Unfolds.{unfoldingOf}
 use Rattle.game.specs.Lent.{lent}
-use Rattle.game.specs.Calls.{passing, stoppedAt, leaves}
+use Rattle.game.specs.Calls.{stoppedAt, leaves}
 
 -- An unfolded event fired at a lent unfolded marking: 1 to 9, 13, 14, then 18, then 10, 11, 12 at place 0; fine: the number of unfolded
 -- conditions (01, Runs across and Refusal numbers).
 unfoldable pub unfoldedFireOf : List ℕ → List ℕ → ℕ → Judged
 unfoldedFireOf s m j =
     unfoldingOf s (lent (basic (netOf s) .conditions) m
-    (passing (stoppedAt 0 (stopping (basic (netOf s)) (marking m) j)) (Fine (basic (netOf s) .conditions))))
+    (refusedOr (stoppedAt 0 (stopping (basic (netOf s)) (marking m) j)) (Fine (basic (netOf s) .conditions))))
 
 -- The lent unfolded marking after it (01, Playing the table).
 unfoldable pub unfoldedFiredOf : List ℕ → List ℕ → ℕ → List ℕ

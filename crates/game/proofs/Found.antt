@@ -16,6 +16,7 @@ use Rattle.refusal.proofs.Chain.{need-fine, goes-on}
 use Rattle.records.specs.Records.{conditions}
 use Rattle.table.specs.Walk.{judgeOf, offsetOf}
 use Rattle.table.specs.Decoded.{netOf}
+use Rattle.table.specs.Links.{refusedOr}
 use Rattle.table.proofs.Decoded.{net-judged}
 use Rattle.step.specs.declared.Cause.the-variants.{Unknown}
 use Rattle.step.specs.declared.Step.{Step}
@@ -24,7 +25,7 @@ use Rattle.model.specs.Lent.{bytes, marking}
 use Rattle.step.specs.Lent.{Lent}
 use Rattle.game.specs.Lent.{lent}
 use Rattle.step.specs.Steps.{recordNet, stepOf, stepped, answeredOf}
-use Rattle.game.specs.Calls.{passing, onMarking, leaves, stoppedAt, firingOf, firedOf}
+use Rattle.game.specs.Calls.{onMarking, leaves, stoppedAt, firingOf, firedOf}
 use Rattle.game.specs.Ready.{readyOf}
 use Rattle.game.proofs.Marked.{conditions-are, on-then, on-fine}
 
@@ -64,7 +65,7 @@ module _ (s : List ℕ) (n : ℕ) (j : judgeOf s ≡ Fine n) (e : ℕ) (l : List
 
 -- ---- a step's answer is the model's
 
-pub answered-is : (o : Option Stop) (place value : ℕ) → answeredOf (stepOf o) place value ≡ passing (stoppedAt place o) (Fine value)
+pub answered-is : (o : Option Stop) (place value : ℕ) → answeredOf (stepOf o) place value ≡ refusedOr (stoppedAt place o) (Fine value)
 answered-is none place value = refl
 answered-is (some unknown) place value = refl
 answered-is (some (lacks b)) place value = refl
@@ -98,20 +99,20 @@ module _ (s m : List ℕ) (e : ℕ) where
 
 module _ (s m : List ℕ) (e v : ℕ) where
   abbrev asking : ℕ → Judged
-  asking at = passing (stoppedAt 0 (stopping (recordNet s at) (marking m) 0)) (Fine v)
+  asking at = refusedOr (stoppedAt 0 (stopping (recordNet s at) (marking m) 0)) (Fine v)
 
   pub firing-ready : firingOf s m e v ≡ andThen (readyOf s m e) asking
   unfolding firingOf readyOf onMarking need
   firing-ready = sym (on-then s m (λ n. need (ltb e n) 10 0 (Fine (offsetOf s e))) asking ∙ go (judgeOf s) refl)
     where
       tested : (n : ℕ) → judgeOf s ≡ Fine n → (b : Bool) → ltb e n ≡ b
-          → andThen (need b 10 0 (Fine (offsetOf s e))) asking ≡ passing (stoppedAt 0 (stopping (netOf s) (marking m) e)) (Fine v)
+          → andThen (need b 10 0 (Fine (offsetOf s e))) asking ≡ refusedOr (stoppedAt 0 (stopping (netOf s) (marking m) e)) (Fine v)
       tested n j true t = rw (stopping-found s n j e (ltb-true e n t) (marking m))
       tested n j false t = rw (stopping-unknown s n j e t (marking m))
 
       go : (x : Judged) → judgeOf s ≡ x
           → andThen x (λ n. lent (netOf s .conditions) m (andThen (need (ltb e n) 10 0 (Fine (offsetOf s e))) asking))
-          ≡ andThen x (λ n. lent (netOf s .conditions) m (passing (stoppedAt 0 (stopping (netOf s) (marking m) e)) (Fine v)))
+          ≡ andThen x (λ n. lent (netOf s .conditions) m (refusedOr (stoppedAt 0 (stopping (netOf s) (marking m) e)) (Fine v)))
       go (Fine n) j = ap (lent (netOf s .conditions) m) (tested n j (ltb e n) refl)
       go (Refused x) j = refl
 
@@ -142,6 +143,6 @@ module _ (s m : List ℕ) (e : ℕ) where
     fired-fine = rw (firing-ready s m e (netOf s .conditions), h, new-is) (go stops)
       where
         go : (o : Option Stop) → stepped o (bytes (netOf s .conditions) (fire (netOf s) (marking m) e)) m
-            ≡ leaves (passing (stoppedAt 0 o) (Fine (netOf s .conditions))) (bytes (netOf s .conditions) (fire (netOf s) (marking m) e)) m
+            ≡ leaves (refusedOr (stoppedAt 0 o) (Fine (netOf s .conditions))) (bytes (netOf s .conditions) (fire (netOf s) (marking m) e)) m
         go none = refl
         go (some v) = refl

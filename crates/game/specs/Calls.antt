@@ -3,21 +3,17 @@ use mathlib.Core.Option.{Option, none, some}
 use mathlib.Core.List.{List}
 use Prim.Native.Nat.{ℕ}
 use Rattle.model.specs.Net.{fire, Stop, stopping}
-use Rattle.model.specs.Across.{Refusal, stopped, numberOf, placeOf}
+use Rattle.model.specs.Across.{Refusal, stopped}
 use Rattle.refusal.specs.declared.Judged.{Judged}
 use Rattle.refusal.specs.declared.Judged.the-variants.{Fine, Refused}
-use Rattle.refusal.specs.Answer.{refusedAt, andThen}
+use Rattle.refusal.specs.Answer.{andThen}
 use Rattle.table.specs.Walk.{judgeOf}
 use Rattle.table.specs.Decoded.{netOf}
+use Rattle.table.specs.Links.{refusedOr}
 use Rattle.model.specs.Lent.{bytes, marking}
 use Rattle.game.specs.Lent.{lent}
 
 -- ---- what the calls share
-
--- One link of the chain: the model's refusal, if there is one, else what follows (01, Refusal numbers).
-abbrev pub passing : Option Refusal → Judged → Judged
-passing none rest = rest
-passing (some x) rest = refusedAt (numberOf x) (placeOf x)
 
 -- A table, judged, then a lent marking of it (01, Refusal numbers).
 unfoldable pub onMarking : List ℕ → List ℕ → (ℕ → Judged) → Judged
@@ -37,7 +33,7 @@ stoppedAt k (some v) = some (stopped v k)
 
 -- An event asked for at a lent marking: 1 to 9, 18, then 10, 11, 12 at place 0; fine: a value (01, Refusal numbers).
 unfoldable pub firingOf : List ℕ → List ℕ → ℕ → ℕ → Judged
-firingOf s m e value = onMarking s m (λ n. passing (stoppedAt 0 (stopping (netOf s) (marking m) e)) (Fine value))
+firingOf s m e value = onMarking s m (λ n. refusedOr (stoppedAt 0 (stopping (netOf s) (marking m) e)) (Fine value))
 
 -- Concession is only tested, so nothing is written (01, Playing the table).
 abbrev pub concessionOf : List ℕ → List ℕ → ℕ → Judged

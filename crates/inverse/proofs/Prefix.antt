@@ -10,7 +10,8 @@ use Rattle.refusal.specs.Answer.{andThen}
 use Rattle.refusal.proofs.Chain.{never-both}
 use Rattle.table.specs.Walk.{judgeOf}
 use Rattle.table.specs.Decoded.{netOf}
-use Rattle.layout.specs.Unfolds.{refusedOr, unfoldingOf}
+use Rattle.table.specs.Links.{refusedOr}
+use Rattle.layout.specs.Unfolds.{unfoldingOf}
 
 opened : (j : Judged) (o : Option Refusal) (own : Judged) (k : ℕ) → andThen j (λ _. refusedOr o own) ≡ Fine k
     → ((other : Judged) → andThen j (λ _. refusedOr o other) ≡ other) × (own ≡ Fine k)

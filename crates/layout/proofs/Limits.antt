@@ -18,11 +18,12 @@ use Rattle.refusal.proofs.Chain.{never-both, then-fine}
 use Rattle.records.specs.Records.{conditions}
 use Rattle.table.specs.Walk.{judgeOf}
 use Rattle.table.specs.Decoded.{netOf}
+use Rattle.table.specs.Links.{refusedOr}
 use Rattle.table.proofs.Decoded.{net-judged}
 use Rattle.table.proofs.Sound.{tabled}
 use Rattle.tally.specs.Having.{Tally}
 use Rattle.layout.specs.Colours.{cappedCount, idleOr, eventsOf, widthAt}
-use Rattle.layout.specs.Unfolds.{refusedOr, unfoldingOf}
+use Rattle.layout.specs.Unfolds.{unfoldingOf}
 use Rattle.layout.specs.Laid.{Sums, Counted}
 use Rattle.layout.proofs.Counts.{sum-same, sum-capped, sum-capped-low, width-read}
 

@@ -19,16 +19,16 @@ use Rattle.refusal.specs.declared.Refusal as declared
 use Rattle.refusal.specs.declared.Judged.{Judged}
 use Rattle.refusal.specs.declared.Judged.the-variants.{Fine, Refused}
 use Rattle.refusal.specs.Answer.{refusedAt, fitting, written}
-use Rattle.refusal.proofs.Chain.{never-both, then-fine, fitting-room, fitting-short}
+use Rattle.refusal.proofs.Chain.{then-fine, fitting-room, fitting-short}
 use Rattle.table.specs.Walk.{judgeOf}
 use Rattle.table.specs.Decoded.{netOf}
 use Rattle.table.specs.Tabled.{Tabled}
+use Rattle.table.specs.Links.{refusedOr}
 use Rattle.table.proofs.Sound.{tabled}
+use Rattle.table.proofs.Links.{links-open, links-refused}
 use Rattle.layout.proofs.Limits.{events-are-all}
-use Rattle.game.specs.Calls.{passing}
 use Rattle.played.specs.Begun.{begunAt}
 use Rattle.played.specs.Played.{Plays}
-use Rattle.played.proofs.Passing.{passing-refused}
 use Rattle.across.specs.Calls.{fitted, numbersOf, acrossOf}
 use Rattle.across.specs.Prepared.{preparedOf}
 use Rattle.across.proofs.Prefix.{across-passed, across-on, across-judged, fitted-link, fitted-across}
@@ -50,17 +50,11 @@ pub lift-across : (s r : List ℕ) (room : ℕ) → liftOf s r room ≡ acrossOf
 unfolding liftOf lift
 lift-across s r room = fitted-across s r (liftingOf (netOf s) r) room
 
--- nothing was refused where the answer is fine
-open-links : (o p : Option Refusal) (c x : ℕ) → passing o (passing p (Fine c)) ≡ Fine x → (o ≡ none) × (p ≡ none)
-open-links none none c x e = (refl, refl)
-open-links none (some y) c x e = never-both (sym e)
-open-links (some y) p c x e = never-both (sym e)
-
 across-open : (s r : List ℕ) → acrossOf s r (Fine 0) ≡ Fine 0 → (tooLong r ≡ none) × (unfoldingRefused (netOf s) ≡ none)
 unfolding acrossOf
 across-open s r e =
-    let q = then-fine (judgeOf s) (λ _. passing (tooLong r) (passing (unfoldingRefused (netOf s)) (Fine 0))) 0 e in
-    open-links (tooLong r) (unfoldingRefused (netOf s)) 0 0 (q .2)
+    let q = then-fine (judgeOf s) (λ _. refusedOr (tooLong r) (refusedOr (unfoldingRefused (netOf s)) (Fine 0))) 0 e in
+    links-open (tooLong r) (unfoldingRefused (netOf s)) 0 0 (q .2)
 
 lift-is : (s r : List ℕ) → acrossOf s r (Fine 0) ≡ Fine 0 → lift (netOf s) r ≡ liftingOf (netOf s) r
 unfolding lift
@@ -89,8 +83,8 @@ unfolding opening begunAt begin
 begun-opening n = refl
 
 module _ (s r : List ℕ) (answer : Judged) (l : List ℕ) (p : Plays (netOf s) (begin (netOf s)) r answer l) where
-  told : answer ≡ passing (tooLong r) (passing (stuck (replay (netOf s) 0 (opening (netOf s)) r)) (Fine (netOf s .conditions)))
-  told = p .told ∙ ap (λ (t : State). passing (tooLong r) (passing (stuck (replay (netOf s) 0 t r)) (Fine (netOf s .conditions)))) (begun-opening (netOf s))
+  told : answer ≡ refusedOr (tooLong r) (refusedOr (stuck (replay (netOf s) 0 (opening (netOf s)) r)) (Fine (netOf s .conditions)))
+  told = p .told ∙ ap (λ (t : State). refusedOr (tooLong r) (refusedOr (stuck (replay (netOf s) 0 t r)) (Fine (netOf s .conditions)))) (begun-opening (netOf s))
 
   -- a step that is stopped is what the lift answers
   pub lift-stopped : (room : ℕ) {x : declared.Refusal} → acrossOf s r (Fine 0) ≡ Fine 0 → acrossOf s r (fitted (liftingOf (netOf s) r) room) ≡ fitted (liftingOf (netOf s) r) room → answer ≡ Refused x → answer ≡ liftOf s r room
@@ -98,14 +92,14 @@ module _ (s r : List ℕ) (answer : Judged) (l : List ℕ) (p : Plays (netOf s) 
   lift-stopped room {x} z o t =
       let st = stuck (replay (netOf s) 0 (opening (netOf s)) r) in
       let a = unless (again (repeated (netOf s) (earliest (netOf s)) 0 (opening (netOf s)) r)) (run (lifted (netOf s) (earliest (netOf s)) (opening (netOf s)) r)) in
-      told ∙ passing-refused (tooLong r) st (netOf s .conditions) (fitted a room) x (sym told ∙ t)
-      ∙ ap (λ (y : Option Refusal). passing y (passing st (fitted a room))) (across-open s r z .0)
+      told ∙ links-refused (tooLong r) st (netOf s .conditions) (fitted a room) x (sym told ∙ t)
+      ∙ ap (λ (y : Option Refusal). refusedOr y (refusedOr st (fitted a room))) (across-open s r z .0)
       ∙ sym (fitted-link st a room) ∙ sym (lift-across s r room ∙ o)
 
   -- else it is a run
   pub lift-runs : (x : ℕ) → answer ≡ Fine x → T (runs (netOf s) (begin (netOf s)) r)
   unfolding opening
-  lift-runs x t = not-stuck (netOf s) 0 (opening (netOf s)) r (open-links (tooLong r) (stuck (replay (netOf s) 0 (opening (netOf s)) r)) (netOf s .conditions) x (sym told ∙ t) .1)
+  lift-runs x t = not-stuck (netOf s) 0 (opening (netOf s)) r (links-open (tooLong r) (stuck (replay (netOf s) 0 (opening (netOf s)) r)) (netOf s .conditions) x (sym told ∙ t) .1)
 
 -- ---- a run lifted
 

@@ -17,7 +17,6 @@ use Rattle.model.specs.Lent.{bytes, marking}
 use Rattle.model.proofs.Firing.{runs-first, runs-rest, can-none}
 use Rattle.model.proofs.Lent.{length-bytes, bytes-at, bit-one, begun-marking}
 use Rattle.played.proofs.Playing.{fired-marking}
-use Rattle.replay.proofs.Playing.{fired-marking}
 use Rattle.listing.specs.Text.{newline, endWords, commas, holding, startLine, stepLine, endLine}
 use Rattle.listing.specs.Calls.{heldIn, firstIn, nextOf, firstPiece, morePiece}
 use Rattle.listing.specs.Whole.{stepLines}

@@ -18,7 +18,8 @@ use Rattle.refusal.specs.declared.Judged.the-variants.{Fine, Refused}
 use Rattle.refusal.specs.Answer.{need, andThen, valueOf}
 use Rattle.table.specs.Walk.{judgeOf}
 use Rattle.table.specs.Decoded.{netOf}
-use Rattle.layout.specs.Unfolds.{refusedOr, unfoldingOf}
+use Rattle.table.specs.Links.{refusedOr}
+use Rattle.layout.specs.Unfolds.{unfoldingOf}
 use Rattle.events.specs.declared.Colour.{Colour}
 use Rattle.events.specs.Colours.{colourOf}
 use Rattle.event_numbers.specs.Answers.{numberOf}

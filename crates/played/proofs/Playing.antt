@@ -29,9 +29,13 @@ use Rattle.step.specs.Steps.{stepOf, stepped, answeredOf}
 use Rattle.game.proofs.Found.{answered-is}
 use Rattle.model.specs.Lent.{bytes, marking}
 use Rattle.step.specs.Lent.{Lent}
-use Rattle.game.specs.Calls.{passing, stoppedAt}
+use Rattle.game.specs.Calls.{stoppedAt}
 use Rattle.played.specs.Begun.{begunAt}
 use Rattle.played.specs.Played.{Plays}
+use Rattle.table.specs.Links.{refusedOr}
+use Rattle.game.specs.declared.Cause.{Cause}
+use Rattle.game.specs.declared.Step.{Step}
+use Rattle.game.specs.declared.Step.the-variants.{Goes, Stops}
 use Rattle.model.proofs.Lent.{length-bytes, tidy-marking, marking-bytes}
 use Rattle.step.proofs.Bytes.{lent-bytes}
 
@@ -127,7 +131,7 @@ module _ (n : Net) (m : Marking) (r : List ℕ) (k c : ℕ) (l : List ℕ) (g : 
   step-ends room short x e answer a =
       let (v, o) = step-some (stopping n (marking l) (getD r k 0)) q x told e in
       let kept : new ≡ l = left ∙ rw o in
-      let is : answer ≡ passing (stoppedAt k (some v)) (Fine 0) = a ∙ ap (λ (y : Step). answeredOf y k 0) (told ∙ ap stepOf o) ∙ answered-is (some v) k 0 in
+      let is : answer ≡ refusedOr (stoppedAt k (some v)) (Fine 0) = a ∙ ap (λ (y : Step). answeredOf y k 0) (told ∙ ap stepOf o) ∙ answered-is (some v) k 0 in
       record {
         told = is ∙ rw (length-short r short, going-stop n m r k c l g h v o);
         lents = subst (λ (y : List ℕ). Lent y) (sym kept) (g .lents);

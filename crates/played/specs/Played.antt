@@ -10,9 +10,9 @@ use Rattle.refusal.specs.declared.Judged.{Judged}
 use Rattle.refusal.specs.declared.Judged.the-variants.{Fine}
 use Rattle.records.specs.Records.{conditions}
 use Rattle.table.specs.Walk.{judgeOf, offsetOf}
+use Rattle.table.specs.Links.{refusedOr}
 use Rattle.model.specs.Lent.{marking}
 use Rattle.step.specs.Lent.{Lent}
-use Rattle.game.specs.Calls.{passing}
 use Rattle.played.specs.Begun.{begunAt}
 
 -- The first n numbers of a list are the offsets of the n events of a table.
@@ -31,7 +31,7 @@ pub record Playable (s : List ℕ) (n : ℕ) (offsets l : List ℕ) : Type 0 whe
 -- A run played from a marking: the answer is 3, then what its steps say, and where it is fine the bytes are those of the end (01,
 -- Refusal numbers).
 pub record Plays (n : Net) (m : Marking) (r : List ℕ) (answer : Judged) (l : List ℕ) : Type 0 where
-  pub told : answer ≡ passing (tooLong r) (passing (stuck (replay n 0 (begunAt n m) r)) (Fine (n .conditions)))
+  pub told : answer ≡ refusedOr (tooLong r) (refusedOr (stuck (replay n 0 (begunAt n m) r)) (Fine (n .conditions)))
   pub lents : Lent l
   pub room : n .conditions ≤ length l
   pub reached : (x : ℕ) → answer ≡ Fine x → marking l ≡ end n m r

@@ -22,9 +22,9 @@ use Rattle.refusal.specs.Answer.{refusedAt, need, fitting, written}
 use Rattle.refusal.proofs.Chain.{never-both, need-passes, need-refuses, then-fine}
 use Rattle.table.specs.Walk.{judgeOf}
 use Rattle.table.specs.Decoded.{netOf}
+use Rattle.table.specs.Links.{refusedOr}
 use Rattle.table.proofs.Decoded.{net-judged}
 use Rattle.layout.specs.Laid.{Sums}
-use Rattle.game.specs.Calls.{passing}
 use Rattle.across.specs.Calls.{fitted, numbersOf, acrossOf}
 use Rattle.across.specs.Prepared.{preparedOf, Ready}
 use Rattle.across.proofs.Prefix.{across-passed, across-on, across-judged, fitted-across, fitted-fine}
@@ -37,7 +37,7 @@ use Rattle.project.proofs.Back.{read-is}
 -- ---- answers of the model
 
 -- a replay that is refused is the answer of the projection
-stuck-fitted : (o : Option Refusal) (a : Answer) (k room : ℕ) (p : Judged) {x : declared.Refusal} → p ≡ passing o (Fine k) → p ≡ Refused x → p ≡ fitted (unless o a) room
+stuck-fitted : (o : Option Refusal) (a : Answer) (k room : ℕ) (p : Judged) {x : declared.Refusal} → p ≡ refusedOr o (Fine k) → p ≡ Refused x → p ≡ fitted (unless o a) room
 unfolding fitted
 stuck-fitted none a k room p e t = never-both (sym e ∙ t)
 stuck-fitted (some y) a k room p e t = e
@@ -92,7 +92,7 @@ module _ (s w out : List ℕ) where
         pub steps-are : v ≡ length w
         steps-are = go (stuck (replay (basic n) 0 (opening (basic n)) w)) (sym z ∙ t .told)
           where
-            go : (o : Option Refusal) → Fine v ≡ passing o (Fine (length w)) → v ≡ length w
+            go : (o : Option Refusal) → Fine v ≡ refusedOr o (Fine (length w)) → v ≡ length w
             go none q = cc
             go (some y) q = never-both q
 

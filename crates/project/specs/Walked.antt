@@ -15,13 +15,15 @@ use Rattle.refusal.specs.declared.Judged.{Judged}
 use Rattle.refusal.specs.declared.Judged.the-variants.{Fine}
 use Rattle.table.specs.Walk.{judgeOf}
 use Rattle.table.specs.Decoded.{netOf}
+use Rattle.table.specs.Links.{refusedOr}
 use Rattle.layout.specs.Laid.{Sums, Counted}
 use Rattle.step.specs.declared.Step.{Step}
 use Rattle.step.specs.declared.Step.the-variants.{Goes, Stops}
 use Rattle.step.specs.Lent.{Lent}
 use Rattle.step.specs.Steps.{recordNet, causeNumber}
-use Rattle.game.specs.Calls.{passing}
 use Rattle.played.specs.Played.{Indexed}
+use Rattle.game.specs.declared.Step.{Step}
+use Rattle.game.specs.declared.Step.the-variants.{Goes, Stops}
 use Rattle.across.specs.Prepared.{Between}
 use Rattle.decided.specs.Decided.{numberOfStop}
 use Rattle.decided.specs.Kept.{Kept}
@@ -70,7 +72,7 @@ pub record Fires (s : List ℕ) (at : ℕ) (state : List ℕ) : Type 0 where
 -- All steps replayed: the answer is what the unfolded net's replay says, and where it is fine the bytes tell the end (01, Refusal
 -- numbers).
 pub record Replayed (n : Net) (w : List ℕ) (r : Judged) (state seen : List ℕ) : Type 0 where
-  pub told : r ≡ passing (stuck (replay (basic n) 0 (opening (basic n)) w)) (Fine (length w))
+  pub told : r ≡ refusedOr (stuck (replay (basic n) 0 (opening (basic n)) w)) (Fine (length w))
   pub plays : (x : ℕ) → r ≡ Fine x → T (runs (basic n) (begin (basic n)) w)
   pub lents : (x : ℕ) → r ≡ Fine x → (state ≡ bytes 256 (marking state)) × (seen ≡ bytes 256 (marking seen))
   pub here : (x : ℕ) → r ≡ Fine x → marking state ≡ stateAt n w (length w) .marking

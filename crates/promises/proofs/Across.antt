@@ -3,7 +3,7 @@
 use mathlib.Core.Path.{_≡_, refl, sym, ap, _∙_, subst}
 use mathlib.Core.Logic.{_↔_}
 use mathlib.Core.Bool.{Bool, true, false}
-use mathlib.Core.Option.{Option, none, some}
+use mathlib.Core.Option.{none}
 use mathlib.Core.List.{List, [], _∷_, _++_}
 use Prim.Native.Nat.{ℕ, zero, suc, _≤_, _<_}
 use native.Mathlib.Omega.{arith}
@@ -15,7 +15,7 @@ use Rattle.model.specs.Runs.{runs, end, opening, replay}
 use Rattle.model.specs.Unfolding.{basic}
 use Rattle.model.specs.Lent.{bytes}
 use Rattle.model.specs.Exchange.{exchanged}
-use Rattle.model.specs.Across.{Refusal, Answer, run, refusal, stopped, other, unless, stuck, mostSteps, tooLong, unfoldingRefused, lifting, lift, readBack, projecting, project, exchanging, exchange}
+use Rattle.model.specs.Across.{Answer, run, refusal, stopped, other, unless, stuck, mostSteps, tooLong, unfoldingRefused, lifting, lift, readBack, projecting, project, exchanging, exchange}
 use Rattle.model.specs.Demands.{Correspond, Projects}
 use Rattle.model.proofs.Answers.{unless-run, not-stuck, stuck-none, exchanging-run, short-length, length-short}
 use Rattle.model.proofs.Exchange.{exchanged-twice, length-exchanged}
@@ -29,7 +29,8 @@ use Rattle.refusal.proofs.Chain.{never-both, need-passes, then-fine, fitting-ro
 use Rattle.table.specs.Walk.{judgeOf}
 use Rattle.table.specs.Decoded.{netOf}
 use Rattle.table.proofs.Sound.{accepted-sound}
-use Rattle.game.specs.Calls.{passing, leaves}
+use Rattle.table.proofs.Links.{link-fine}
+use Rattle.game.specs.Calls.{leaves}
 use Rattle.replay.specs.Calls.{playedOf, replayOf}
 use Rattle.exchange.specs.Calls.{swapping, exchangeOf, exchangedOf}
 use Rattle.across.specs.Calls.{fitted, numbersOf, ended}
@@ -171,16 +172,12 @@ fitted-fifteen (refusal (other x k)) room i e =
     let y : k ≡ i = ap refused.placeOf e in
     rw (z, y)
 
-passing-passes : (o : Option Refusal) (rest : Judged) (c : ℕ) → passing o rest ≡ Fine c → (o ≡ none) × (rest ≡ Fine c)
-passing-passes none rest c e = (refl, e)
-passing-passes (some x) rest c e = never-both (sym e)
-
 -- what replay accepts is a run that is not too long
 accepted : (n : Net) (r : List ℕ) (room c : ℕ) → playedOf n (opening n) r room ≡ Fine c → (tooLong r ≡ none) × T (runs n (begin n) r)
 unfolding playedOf opening
 accepted n r room c e =
-    let x = passing-passes (tooLong r) _ c e in
-    let y = passing-passes (stuck (replay n 0 (opening n) r)) _ c (x .1) in
+    let x = link-fine (tooLong r) _ c e in
+    let y = link-fine (stuck (replay n 0 (opening n) r)) _ c (x .1) in
     (x .0, not-stuck n 0 (opening n) r (y .0))
 
 -- A run that replay accepts is turned away with 15 exactly where an event with a persistent postcondition comes again.

@@ -23,8 +23,9 @@ use Rattle.refusal.specs.Answer.{need}
 use Rattle.refusal.proofs.Chain.{never-both, need-passes, then-fine}
 use Rattle.table.specs.Walk.{judgeOf}
 use Rattle.table.specs.Decoded.{netOf}
+use Rattle.table.specs.Links.{refusedOr}
 use Rattle.model.specs.Lent.{bytes, marking}
-use Rattle.game.specs.Calls.{passing, onMarking, leaves, stoppedAt, firingOf, fireOf, firedOf}
+use Rattle.game.specs.Calls.{onMarking, leaves, stoppedAt, firingOf, fireOf, firedOf}
 use Rattle.played.specs.Begun.{begunAt}
 use Rattle.replay.specs.Calls.{playedOf, endOver, replayOf, endOf, replayFromOf, endFromOf}
 use Rattle.exchange.specs.Calls.{swapping, exchangeOf, exchangedOf}
@@ -89,7 +90,7 @@ exchange-replayed s r k c h out =
 
 -- ---- a firing as a replay
 
-stopped-fine : (o : Option Stop) (v c : ℕ) → passing (stoppedAt 0 o) (Fine v) ≡ Fine c → (o ≡ none) × (v ≡ c)
+stopped-fine : (o : Option Stop) (v c : ℕ) → refusedOr (stoppedAt 0 o) (Fine v) ≡ Fine c → (o ≡ none) × (v ≡ c)
 stopped-fine none v c e = (refl, cc)
 stopped-fine (some x) v c e = never-both (sym e)
 
@@ -97,7 +98,7 @@ stopped-fine (some x) v c e = never-both (sym e)
 pub fire-replayed : (s m : List ℕ) (e c : ℕ) → fireOf s m e ≡ Fine c → OneStep s m e c
 unfolding firingOf firedOf replayFromOf endFromOf endOver playedOf begunAt end replay
 fire-replayed s m e c h =
-    let k = on-fine s m (λ n. passing (stoppedAt 0 (stopping (netOf s) (marking m) e)) (Fine (netOf s .conditions))) c h in
+    let k = on-fine s m (λ n. refusedOr (stoppedAt 0 (stopping (netOf s) (marking m) e)) (Fine (netOf s .conditions))) c h in
     let (o, v) = stopped-fine (stopping (netOf s) (marking m) e) (netOf s .conditions) c (k .goes) in
     let count : length m ≡ netOf s .conditions = k .long ∙ sym (conditions-are s (k .events) (k .judged)) in
     let short : tooLong (e ∷ []) ≡ none = length-short (e ∷ []) (omega arith) in
@@ -105,7 +106,7 @@ fire-replayed s m e c h =
     = ap stuck (replay-go (netOf s) 0 (begunAt (netOf s) (marking m)) e [] o) in
     let fits : need (leb (netOf s .conditions) (length m)) 16 (netOf s .conditions) (Fine (netOf s .conditions)) ≡ Fine (netOf s .conditions)
     = need-passes 16 (netOf s .conditions) (le-leb (netOf s .conditions) (length m) (omega arith)) in
-    let played : playedOf (netOf s) (begunAt (netOf s) (marking m)) (e ∷ []) (length m) ≡ passing (stoppedAt 0 (stopping (netOf s) (marking m) e)) (Fine (netOf s .conditions))
+    let played : playedOf (netOf s) (begunAt (netOf s) (marking m)) (e ∷ []) (length m) ≡ refusedOr (stoppedAt 0 (stopping (netOf s) (marking m) e)) (Fine (netOf s .conditions))
     = rw (short, free, o) fits in
     let answer : replayFromOf s m (e ∷ []) (length m) ≡ Fine c
     = ap (λ (x : Judged). onMarking s m (λ n. x)) played ∙ h in

@@ -23,7 +23,7 @@ use Rattle.game.specs.Calls.{leaves, onMarking}
 use Rattle.played.specs.Begun.{begunAt}
 use Rattle.across.specs.Prepared.{preparedOf}
 use Rattle.promises.specs.Refused.{ofTable, ofLent, ofStep, ofSteps, ofUnfolding, listed, Refusing}
-use Rattle.promises.proofs.Refused.{listed-need, listed-passing, conditions-listed, event-listed, marking-listed, judged-listed, lent-listed, stuck-listed, long-listed, unfolding-listed, unfolding-of-listed}
+use Rattle.promises.proofs.Refused.{listed-need, listed-or, conditions-listed, event-listed, marking-listed, judged-listed, lent-listed, stuck-listed, long-listed, unfolding-listed, unfolding-of-listed}
 use Rattle.rules.proofs.conditions_record.Reads as conditions-record
 use Rattle.rules.proofs.event_record.Reads as event-record
 use Rattle.rules.proofs.marking_record.Reads as marking-record
@@ -78,7 +78,7 @@ pub play-refused : (κs : _) (a : _) (r : _) (x : _) → play.Learnt κs a r x �
 play-refused κs a r x h =
     let run = now (a .1 .1 .1 .0) in
     let played = replay (netOf (now (a .0))) 0 (begunAt (netOf (now (a .0))) (marking (now (a .1 .1 .1 .1 .0)))) run in
-    rw (h .told) (listed-passing ofSteps (tooLong run) _ (long-listed ofSteps run tt) (listed-passing ofSteps (stuck played) _ (stuck-listed ofSteps played tt tt tt) tt))
+    rw (h .told) (listed-or ofSteps (tooLong run) _ (long-listed ofSteps run tt) (listed-or ofSteps (stuck played) _ (stuck-listed ofSteps played tt tt tt) tt))
 
 pub write-end-refused : (κs : _) (a : _) (r : _) (x : _) → write-end.Learnt κs a r x → Refusing (16 ∷ []) r (now (a .1 .1 .0)) (now (x .1 .1 .0))
 write-end-refused κs a r x h = late r _ _ (now (a .1 .1 .0)) (now (x .1 .1 .0)) (h .0) (listed-need (16 ∷ []) _ 16 _ _ tt tt) (h .1)
@@ -95,10 +95,10 @@ pub lay-out-run-refused : (κs : _) (a : _) (r : _) (x : _) → lay-out-run.Lear
 unfolding preparedOf
 lay-out-run-refused κs a r x h =
     let n = netOf (now (a .0)) in
-    rw (h .answer) (judged-listed ofUnfolding (now (a .0)) _ tt (λ _. listed-need ofUnfolding _ 3 0 _ tt (listed-passing ofUnfolding (unfoldingRefused n) _ (unfolding-listed ofUnfolding n tt tt) tt)))
+    rw (h .answer) (judged-listed ofUnfolding (now (a .0)) _ tt (λ _. listed-need ofUnfolding _ 3 0 _ tt (listed-or ofUnfolding (unfoldingRefused n) _ (unfolding-listed ofUnfolding n tt tt) tt)))
 
 pub replay-lifted-refused : (κs : _) (a : _) (r : _) (x : _) → replay-lifted.Learnt κs a r x → T (listed ofStep r)
 replay-lifted-refused κs a r x h =
     let unfolded = basic (netOf (now (a .0))) in
     let played = replay unfolded 0 (opening unfolded) (now (a .1 .1 .1 .1 .1 .0)) in
-    rw (h .told) (listed-passing ofStep (stuck played) _ (stuck-listed ofStep played tt tt tt) tt)
+    rw (h .told) (listed-or ofStep (stuck played) _ (stuck-listed ofStep played tt tt tt) tt)

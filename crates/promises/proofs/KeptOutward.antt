@@ -20,12 +20,13 @@ use Rattle.refusal.specs.Answer.{numberOf, andThen, written}
 use Rattle.refusal.proofs.Chain.{never-both}
 use Rattle.table.specs.Walk.{judgeOf}
 use Rattle.table.specs.Decoded.{netOf}
+use Rattle.table.specs.Links.{refusedOr}
 use Rattle.asking.specs.Calls.{preconditionsOf, preconditionsInto, postconditionsOf, postconditionsInto, startOf, startInto}
 use Rattle.game.specs.Calls.{leaves, concessionOf, fireOf, firedOf}
 use Rattle.replay.specs.Calls.{replayOf, endOf}
 use Rattle.exchange.specs.Calls.{exchangeOf, exchangedOf}
 use Rattle.runs.specs.Runs.{runKind, liftedKind, readAnswer, runInto, writeAnswer, recordInto}
-use Rattle.layout.specs.Unfolds.{refusedOr, unfoldingOf}
+use Rattle.layout.specs.Unfolds.{unfoldingOf}
 use Rattle.events.specs.declared.Colour.{Colour}
 use Rattle.event_numbers.specs.Answers as unfolded
 use Rattle.events.specs.Answers.{originJudged, originOf}

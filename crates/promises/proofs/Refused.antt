@@ -27,13 +27,14 @@ use Rattle.records.specs.Records.{part, headerOf, whenWhole, conditions, flags,
 use Rattle.rules.specs.Rules.{conditionsOf, listsOf, eventOf, markingOf}
 use Rattle.table.specs.Walk.{kindIs, lastOf, eventsFrom, judgeOf, offsetOf}
 use Rattle.table.specs.Decoded.{netOf}
+use Rattle.table.specs.Links.{refusedOr}
 use Rattle.game.specs.Lent.{lent, firstAbove}
-use Rattle.game.specs.Calls.{passing, onMarking, stoppedAt, firingOf}
+use Rattle.game.specs.Calls.{onMarking, stoppedAt, firingOf}
 use Rattle.replay.specs.Calls.{playedOf, replayOf, replayFromOf}
 use Rattle.played.specs.Begun.{begunAt}
 use Rattle.exchange.specs.Calls.{swapping, exchangeOf}
 use Rattle.runs.specs.Runs.{runKind, stepsIn, readAnswer, writeAnswer}
-use Rattle.layout.specs.Unfolds.{refusedOr, unfoldingOf}
+use Rattle.layout.specs.Unfolds.{unfoldingOf}
 use Rattle.across.specs.Calls.{fitted, ended}
 use Rattle.lift.specs.Calls.{liftOf}
 use Rattle.ends.specs.Calls.{liftEndOf, unfoldedReplayOf}
@@ -76,10 +77,6 @@ module _ (l : List ℕ) where
   abbrev pub listedIf : Option model.Refusal → Bool
   listedIf none = true
   listedIf (some x) = mem (numberOf x) l
-
-  pub listed-passing : (o : Option model.Refusal) (rest : Judged) → T (listedIf o) → T (listed l rest) → T (listed l (passing o rest))
-  listed-passing none rest h t = t
-  listed-passing (some x) rest h t = h
 
   pub listed-or : (o : Option model.Refusal) (rest : Judged) → T (listedIf o) → T (listed l rest) → T (listed l (refusedOr o rest))
   listed-or none rest h t = t
@@ -192,7 +189,7 @@ unfolding firingOf onMarking
 firing-listed s m e value =
     judged-listed ofFiring s _ tt (λ n.
     lent-listed ofFiring (netOf s .conditions) m _ tt
-    (listed-passing ofFiring (stoppedAt 0 (stopping (netOf s) (marking m) e)) (Fine value)
+    (listed-or ofFiring (stoppedAt 0 (stopping (netOf s) (marking m) e)) (Fine value)
     (steps-listed ofFiring 0 (stopping (netOf s) (marking m) e) tt tt tt) tt))
 
 -- ---- replay
@@ -200,8 +197,8 @@ firing-listed s m e value =
 played-listed : (n : Net) (s : State) (r : List ℕ) (room : ℕ) → T (listed ofReplay (playedOf n s r room))
 unfolding playedOf
 played-listed n s r room =
-    listed-passing ofReplay (tooLong r) _ (long-listed ofReplay r tt)
-    (listed-passing ofReplay (stuck (replay n 0 s r)) _ (stuck-listed ofReplay (replay n 0 s r) tt tt tt)
+    listed-or ofReplay (tooLong r) _ (long-listed ofReplay r tt)
+    (listed-or ofReplay (stuck (replay n 0 s r)) _ (stuck-listed ofReplay (replay n 0 s r) tt tt tt)
     (listed-need ofReplay (leb (n .conditions) room) 16 (n .conditions) _ tt tt))
 
 pub replay-listed : (s r : List ℕ) (room : ℕ) → T (listed ofReplay (replayOf s r room))
@@ -317,7 +314,7 @@ unfolding unfoldedFireOf
 unfolded-fire-listed s m j =
     unfolding-of-listed ofUnfoldedFiring s _ tt
     (lent-listed ofUnfoldedFiring (basic (netOf s) .conditions) m _ tt
-    (listed-passing ofUnfoldedFiring (stoppedAt 0 (stopping (basic (netOf s)) (marking m) j)) _ (steps-listed ofUnfoldedFiring 0 (stopping (basic (netOf s)) (marking m) j) tt tt tt) tt))
+    (listed-or ofUnfoldedFiring (stoppedAt 0 (stopping (basic (netOf s)) (marking m) j)) _ (steps-listed ofUnfoldedFiring 0 (stopping (basic (netOf s)) (marking m) j) tt tt tt) tt))
 
 -- ---- records of runs
 

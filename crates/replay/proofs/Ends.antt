@@ -21,7 +21,8 @@ use Rattle.game.specs.Calls.{onMarking, leaves}
 use Rattle.played.specs.Begun.{begunAt}
 use Rattle.replay.specs.Calls.{playedOf, endOver, replayOf, replayFromOf}
 use Rattle.played.specs.Played.{Plays}
-use Rattle.played.proofs.Passing.{passing-refused, passing-fine, left-refused}
+use Rattle.table.proofs.Links.{links-refused, links-fine}
+use Rattle.played.proofs.Passing.{left-refused}
 use Rattle.model.proofs.Lent.{bytes-are}
 use Rattle.step.proofs.Bytes.{lent-at}
 use Rattle.game.proofs.Marked.{on-then}
@@ -39,14 +40,14 @@ module _ (n : Net) (m : Marking) (r : List ℕ) (answer : Judged) (l : List ℕ)
   unfolding playedOf
   tail-refused room x e =
       p .told
-      ∙ passing-refused (tooLong r) (stuck (replay n 0 (begunAt n m) r)) (n .conditions) (need (leb (n .conditions) room) 16 (n .conditions) (Fine (n .conditions))) x (sym (p .told) ∙ e)
+      ∙ links-refused (tooLong r) (stuck (replay n 0 (begunAt n m) r)) (n .conditions) (need (leb (n .conditions) room) 16 (n .conditions) (Fine (n .conditions))) x (sym (p .told) ∙ e)
 
   module _ (count : ℕ) (e : answer ≡ Fine count) where
     abbrev rest : ℕ → Judged
     rest room = need (leb (n .conditions) room) 16 (n .conditions) (Fine (n .conditions))
 
     count-is : count ≡ n .conditions
-    count-is = passing-fine (tooLong r) (stuck (replay n 0 (begunAt n m) r)) (n .conditions) count (rest 0) (sym (p .told) ∙ e) .0
+    count-is = links-fine (tooLong r) (stuck (replay n 0 (begunAt n m) r)) (n .conditions) count (rest 0) (sym (p .told) ∙ e) .0
 
     pub tail-room : count ≤ length l
     tail-room = omega (arith, count-is, p .room)
@@ -55,7 +56,7 @@ module _ (n : Net) (m : Marking) (r : List ℕ) (answer : Judged) (l : List ℕ)
     unfolding playedOf
     tail-fine room =
         ap (λ (c : ℕ). need (leb c room) 16 c (Fine c)) count-is
-        ∙ passing-fine (tooLong r) (stuck (replay n 0 (begunAt n m) r)) (n .conditions) count (rest room) (sym (p .told) ∙ e) .1
+        ∙ links-fine (tooLong r) (stuck (replay n 0 (begunAt n m) r)) (n .conditions) count (rest room) (sym (p .told) ∙ e) .1
 
     tail-left : (out : List ℕ) → take count l ++ drop count out ≡ endOver n m r out
     unfolding endOver

@@ -12,14 +12,15 @@ use Rattle.refusal.specs.Answer.{need, andThen}
 use Rattle.table.specs.Walk.{judgeOf}
 use Rattle.table.specs.Decoded.{netOf}
 use Rattle.model.specs.Lent.{bytes, marking}
-use Rattle.game.specs.Calls.{passing, onMarking, leaves}
+use Rattle.table.specs.Links.{refusedOr}
+use Rattle.game.specs.Calls.{onMarking, leaves}
 use Rattle.played.specs.Begun.{begunAt}
 
 -- A run from a state, with room for so many bytes: 3, then its steps, then 16; fine: the number of conditions (01, Refusal numbers).
 unfoldable pub playedOf : Net → State → List ℕ → ℕ → Judged
 playedOf n s r room =
-    passing (tooLong r)
-    (passing (stuck (replay n 0 s r))
+    refusedOr (tooLong r)
+    (refusedOr (stuck (replay n 0 s r))
     (need (leb (n .conditions) room) 16 (n .conditions)
     (Fine (n .conditions))))
 

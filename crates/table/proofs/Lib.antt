@@ -1,3 +1,4 @@
 pub mod Walk
 pub mod Decoded
 pub mod Sound
+pub mod Links

@@ -2,3 +2,4 @@
 pub mod Walk
 pub mod Decoded
 pub mod Tabled
+pub mod Links
