@@ -20,8 +20,8 @@ use Rattle.parts.specs.Asked.{askedOf}
 use Rattle.table.specs.Decoded.{netOf}
 use Rattle.parts.proofs.Asking.{asked-fine}
 use Rattle.table.proofs.Sound.{tabled}
+use Rattle.table.proofs.Decoded.{conditions-are-all}
 use Rattle.game.specs.Calls.{leaves}
-use Rattle.game.proofs.Marked.{conditions-are}
 use Rattle.asking.specs.Calls.{startOf, startInto}
 
 -- An asking x for a list of which so many fit.
@@ -68,7 +68,7 @@ pub start-fine : (s : List ℕ) (n : ℕ) → judgeOf s ≡ Fine n → (state : 
     → (r ≡ startOf s (length out)) × (after ≡ startInto s out)
 unfolding startOf startInto fitting
 start-fine s n j state b count k out after r f g =
-    let same : count ≡ netOf s .conditions = k ∙ sym (conditions-are s n j) in
+    let same : count ≡ netOf s .conditions = k ∙ conditions-are-all s n j in
     let few : count ≤ 256 = omega (arith, same, tabled s n j .few-conditions) in
     let first : take count state ≡ bytes count (begin (netOf s)) = first-bytes count 256 (begin (netOf s)) state few b in
     let long : length (take count state) ≡ count = ap length first ∙ length-bytes count (begin (netOf s)) in

@@ -24,12 +24,13 @@ use Rattle.refusal.specs.declared.Judged.the-variants.{Fine, Refused}
 use Rattle.refusal.specs.Answer.{refusedAt, need}
 use Rattle.refusal.proofs.Chain.{need-passes, need-refuses}
 use Rattle.table.specs.Decoded.{netOf}
+use Rattle.table.proofs.Decoded.{conditions-are-all}
 use Rattle.tally.specs.Having.{listOf, having}
 use Rattle.layout.specs.Laid.{Sums, Laid}
 use Rattle.layout.specs.Unfolds.{unfoldingOf}
 use Rattle.layout.specs.Colours.{flagged}
 use Rattle.layout.proofs.Counts.{uses-at}
-use Rattle.layout.proofs.Limits.{conditions-are-all, unfolds-passed, unfolds-on, unfolds-judged}
+use Rattle.layout.proofs.Limits.{unfolds-passed, unfolds-on, unfolds-judged}
 use Rattle.unfolding.proofs.Places.{kept-below}
 use Rattle.words.specs.Words.{wordAt}
 use Rattle.unfolding.specs.Markers.{shown}

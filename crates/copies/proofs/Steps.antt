@@ -26,11 +26,11 @@ use Rattle.refusal.specs.declared.Judged.the-variants.{Fine, Refused}
 use Rattle.words.specs.Words.{wordAt, words}
 use Rattle.table.specs.Walk.{judgeOf, offsetOf}
 use Rattle.table.specs.Decoded.{netIf, netOf}
+use Rattle.table.proofs.Decoded.{conditions-are-all}
 use Rattle.tally.specs.Having.{listPart, Tally}
 use Rattle.tally.proofs.Events.{list-read}
 use Rattle.layout.specs.Colours.{flagged}
 use Rattle.layout.proofs.Counts.{sum-part, uses-at}
-use Rattle.layout.proofs.Limits.{conditions-are-all}
 use Rattle.copies.specs.Copies.{holdsBy}
 use Rattle.copies.specs.Writing.{Within, Fits, Ranged, ownCount, ownByte, copiesFrom, copiesCount, ListFits, Listed, Right, ownBelow, markedBelow, Roomy}
 use Rattle.copies.proofs.Ranges.{within-dec}

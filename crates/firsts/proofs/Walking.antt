@@ -15,7 +15,7 @@ use Rattle.refusal.specs.declared.Judged.the-variants.{Fine}
 use Rattle.records.specs.Records.{markingPart}
 use Rattle.table.specs.Walk.{judgeOf, offsetOf}
 use Rattle.table.specs.Decoded.{netOf}
-use Rattle.table.proofs.Decoded.{net-judged, start-read}
+use Rattle.table.proofs.Decoded.{net-judged, start-read, events-are-all}
 use Rattle.table.proofs.Sound.{tabled}
 use Rattle.tally.specs.Having.{listPart}
 use Rattle.tally.proofs.Events.{list-read, list-inside}
@@ -36,11 +36,8 @@ module _ (s : List ℕ) (events : ℕ) (j : judgeOf s ≡ Fine events) where
   flag : (b : ℕ) → flagged s b ≡ netOf s .persistent b
   flag b = sym (ap (λ (n : Net). n .persistent b) (net-judged s (Fine events) j))
 
-  pub events-all : events ≡ netOf s .events
-  events-all = sym (ap (λ (n : Net). n .events) (net-judged s (Fine events) j))
-
   pub few-events : events < 257
-  few-events = omega (arith, tabled s events j .few-events, events-all)
+  few-events = omega (arith, tabled s events j .few-events, events-are-all s events j)
 
   -- ---- the start
 
@@ -96,10 +93,10 @@ module _ (s : List ℕ) (events : ℕ) (offsets r : List ℕ) (w : Walkable s ev
   step-event = along-event (netOf s) r k repeat slots seen a h (getD r k 0) refl
 
   pub step-low : getD r k 0 < 256
-  step-low = omega (arith, step-event, few-events s events (w .judged), events-all s events (w .judged))
+  step-low = omega (arith, step-event, few-events s events (w .judged), events-are-all s events (w .judged))
 
   pub step-inside : getD r k 0 < length offsets
-  step-inside = omega (arith, step-event, events-all s events (w .judged), w .indexed .long)
+  step-inside = omega (arith, step-event, events-are-all s events (w .judged), w .indexed .long)
 
   pub step-offset : getD offsets (getD r k 0) 0 ≡ offsetOf s (getD r k 0)
-  step-offset = w .indexed .each (getD r k 0) (omega (arith, step-event, events-all s events (w .judged)))
+  step-offset = w .indexed .each (getD r k 0) (omega (arith, step-event, events-are-all s events (w .judged)))

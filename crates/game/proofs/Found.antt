@@ -17,7 +17,7 @@ use Rattle.records.specs.Records.{conditions}
 use Rattle.table.specs.Walk.{judgeOf, offsetOf}
 use Rattle.table.specs.Decoded.{netOf}
 use Rattle.table.specs.Links.{refusedOr}
-use Rattle.table.proofs.Decoded.{net-judged}
+use Rattle.table.proofs.Decoded.{net-judged, conditions-are-all}
 use Rattle.step.specs.declared.Cause.the-variants.{Unknown}
 use Rattle.step.specs.declared.Step.{Step}
 use Rattle.step.specs.declared.Step.the-variants.{Stops}
@@ -27,7 +27,7 @@ use Rattle.game.specs.Lent.{lent}
 use Rattle.step.specs.Steps.{recordNet, stepOf, stepped, answeredOf}
 use Rattle.game.specs.Calls.{onMarking, leaves, stoppedAt, firingOf, firedOf}
 use Rattle.game.specs.Ready.{readyOf}
-use Rattle.game.proofs.Marked.{conditions-are, on-then, on-fine}
+use Rattle.game.proofs.Marked.{on-then, on-fine}
 
 -- ---- the record's net and the table's
 
@@ -134,7 +134,7 @@ module _ (s m : List ℕ) (e : ℕ) where
     new-is : bytes (length m) (fire (recordNet s at) (marking m) 0) ≡ bytes (netOf s .conditions) (fire (netOf s) (marking m) e)
     new-is =
         let k = ready-fine s m e at h in
-        ap (λ (c : ℕ). bytes c (fire (recordNet s at) (marking m) 0)) (k .long ∙ sym (conditions-are s (k .events) (k .judged)))
+        ap (λ (c : ℕ). bytes c (fire (recordNet s at) (marking m) 0)) (k .long ∙ conditions-are-all s (k .events) (k .judged))
         ∙ ap (λ (a : ℕ). bytes (netOf s .conditions) (fire (recordNet s a) (marking m) 0)) (k .place)
         ∙ ap (bytes (netOf s .conditions)) (sym (fire-found s (k .events) (k .judged) e (marking m)))
 

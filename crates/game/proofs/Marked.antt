@@ -15,7 +15,7 @@ use Rattle.records.specs.Records.{conditions}
 use Rattle.table.specs.Walk.{judgeOf}
 use Rattle.table.specs.Decoded.{netOf}
 use Rattle.table.proofs.Walk.{accepted}
-use Rattle.table.proofs.Decoded.{net-judged}
+use Rattle.table.proofs.Decoded.{conditions-are-all}
 use Rattle.step.specs.Lent.{Lent}
 use Rattle.game.specs.Lent.{firstAbove, lent}
 use Rattle.game.specs.Calls.{onMarking}
@@ -62,13 +62,9 @@ none-above (x ∷ l) h i p = go (ltb 1 x) refl h i p (λ q j r. none-above l q j
 
 -- ---- a table and its lent marking
 
--- a judged table has the conditions that its first record counts
-pub conditions-are : (s : List ℕ) (n : ℕ) → judgeOf s ≡ Fine n → netOf s .conditions ≡ conditions s
-conditions-are s n j = rw (net-judged s (Fine n) j)
-
 pub on-judged : (s m : List ℕ) (rest : ℕ → Judged) (n : ℕ) → judgeOf s ≡ Fine n → onMarking s m rest ≡ lent (conditions s) m (rest n)
 unfolding onMarking
-on-judged s m rest n j = simp (j, conditions-are s n j)
+on-judged s m rest n j = simp (j, sym (conditions-are-all s n j))
 
 -- what follows a table and a marking that are judged
 pub on-then : (s m : List ℕ) (f g : ℕ → Judged) → andThen (onMarking s m f) g ≡ onMarking s m (λ n. andThen (f n) g)
@@ -94,7 +90,7 @@ on-fine s m rest x e =
     let (n, j, r) = then-fine (judgeOf s) _ x e in
     let (t, u) = need-fine (eqb (length m) (netOf s .conditions)) 18 (netOf s .conditions) x _ r in
     let (v, w) = need-fine (leb (length m) (firstAbove m)) 18 (firstAbove m) x _ u in
-    let long : length m ≡ conditions s = eqb-true (length m) (netOf s .conditions) t ∙ conditions-are s n j in
+    let long : length m ≡ conditions s = eqb-true (length m) (netOf s .conditions) t ∙ sym (conditions-are-all s n j) in
     record {
       events = n;
       judged = j;

@@ -19,7 +19,7 @@ use Rattle.records.specs.Records.{conditions}
 use Rattle.table.specs.Walk.{judgeOf}
 use Rattle.table.specs.Decoded.{netOf}
 use Rattle.table.specs.Links.{refusedOr}
-use Rattle.table.proofs.Decoded.{net-judged}
+use Rattle.table.proofs.Decoded.{net-judged, events-are-all, conditions-are-all}
 use Rattle.table.proofs.Sound.{tabled}
 use Rattle.tally.specs.Having.{Tally}
 use Rattle.layout.specs.Colours.{cappedCount, idleOr, eventsOf, widthAt}
@@ -91,12 +91,6 @@ count-whole n h = sum-capped (size n) (n .events) h
 -- ---- what is laid out
 
 module _ (s : List ℕ) (k : ℕ) (j : judgeOf s ≡ Fine k) where
-  pub events-are-all : k ≡ netOf s .events
-  events-are-all = sym (ap (λ (n : Net). n .events) (net-judged s (Fine k) j))
-
-  pub conditions-are-all : conditions s ≡ netOf s .conditions
-  conditions-are-all = sym (ap (λ (n : Net). n .conditions) (net-judged s (Fine k) j))
-
   pub counted : (ms us : List ℕ) → Tally (netOf s) true 1 k ms → Tally (netOf s) false 0 k us → Counted s ms us
   counted ms us m u =
       record {
@@ -104,9 +98,9 @@ module _ (s : List ℕ) (k : ℕ) (j : judgeOf s ≡ Fine k) where
             record {
               limits = tabled s k j;
               flags = λ b. sym (ap (λ (n : Net). n .persistent b) (net-judged s (Fine k) j));
-              marks = subst (λ (x : ℕ). Tally (netOf s) true 1 x ms) events-are-all m;
+              marks = subst (λ (x : ℕ). Tally (netOf s) true 1 x ms) (events-are-all s k j) m;
             };
-        uses = subst (λ (x : ℕ). Tally (netOf s) false 0 x us) events-are-all u;
+        uses = subst (λ (x : ℕ). Tally (netOf s) false 0 x us) (events-are-all s k j) u;
       }
 
   -- the sums of a table are those of its net
@@ -115,12 +109,12 @@ module _ (s : List ℕ) (k : ℕ) (j : judgeOf s ≡ Fine k) where
       let most = c .marked .limits .few-conditions in
       record {
         size = t .size;
-        at = λ b h. t .at b (omega (arith, conditions-are-all)) ∙ sum-same (widthAt s ms us) (width (netOf s)) b (λ i l. width-read s ms us c i (omega arith));
+        at = λ b h. t .at b (omega (arith, conditions-are-all s k j)) ∙ sum-same (widthAt s ms us) (width (netOf s)) b (λ i l. width-read s ms us c i (omega arith));
       }
 
   pub count-read : (bases : List ℕ) → Sums (width (netOf s)) (netOf s .conditions) bases → getD bases (conditions s) 0 ≡ conditionCount (netOf s)
   unfolding conditionCount
-  count-read bases t = rw conditions-are-all (t .at (netOf s .conditions) (omega arith))
+  count-read bases t = rw (conditions-are-all s k j) (t .at (netOf s .conditions) (omega arith))
 
 -- ---- how a call goes on after its table was laid out
 

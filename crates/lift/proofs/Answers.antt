@@ -26,7 +26,7 @@ use Rattle.table.specs.Tabled.{Tabled}
 use Rattle.table.specs.Links.{refusedOr}
 use Rattle.table.proofs.Sound.{tabled}
 use Rattle.table.proofs.Links.{links-open, links-refused}
-use Rattle.layout.proofs.Limits.{events-are-all}
+use Rattle.table.proofs.Decoded.{events-are-all}
 use Rattle.played.specs.Begun.{begunAt}
 use Rattle.played.specs.Played.{Plays}
 use Rattle.across.specs.Calls.{fitted, numbersOf, acrossOf}

@@ -24,8 +24,8 @@ use Rattle.table.specs.Decoded.{netOf}
 use Rattle.table.proofs.Sound.{tabled}
 use Rattle.step.specs.Lent.{Lent}
 use Rattle.step.proofs.Bytes.{lent-bytes}
-use Rattle.game.proofs.Marked.{conditions-are}
 use Rattle.played.specs.Played.{Indexed}
+use Rattle.table.proofs.Decoded.{conditions-are-all}
 use Rattle.runs.specs.Runs.{runKind, runOf, readAnswer}
 use Rattle.runs.proofs.Judging.{length-run}
 use Rattle.runs.proofs.Answers.{read-fine}
@@ -210,7 +210,7 @@ module _ (s r old steps : List ℕ) (read : Judged) (many : length old ≡ mostS
             → Opens s r o steps lifted offsets marking end
         opened o answered reaches sets are =
             let j = sym (set .told) ∙ sets in
-            let all : o .conditions ≡ netOf s .conditions = are ∙ sym (conditions-are s (o .events) j) in
+            let all : o .conditions ≡ netOf s .conditions = are ∙ conditions-are-all s (o .events) j in
             let held : Holds s r count (o .events) (o .conditions) (o .unfolded) steps lifted offsets marking end
             = record {
               judged = j;
@@ -237,7 +237,7 @@ module _ (s r : List ℕ) (count events c unfolded : ℕ) (steps lifted offsets 
 
   start-long : length (take (c - 0) marking) ≡ conditions s
   unfolding startBytes
-  start-long = ap length start-shown ∙ length-bytes (netOf s .conditions) (begin (netOf s)) ∙ conditions-are s events (h .judged)
+  start-long = ap length start-shown ∙ length-bytes (netOf s .conditions) (begin (netOf s)) ∙ sym (conditions-are-all s events (h .judged))
 
   start-lent : Lent (take (c - 0) marking)
   unfolding startBytes
@@ -255,7 +255,7 @@ module _ (s r : List ℕ) (count events c unfolded : ℕ) (steps lifted offsets 
       let of-end = length-take-le (unfolded - 0) end (omega (arith, h .few, roomy)) in
       record {
         steady = record {
-          playable = record { judged = h .judged; indexed = h .indexed; lents = start-lent; room = omega (arith, start-long, conditions-are s events (h .judged), tabled s events (h .judged) .few-conditions) };
+          playable = record { judged = h .judged; indexed = h .indexed; lents = start-lent; room = omega (arith, start-long, conditions-are-all s events (h .judged), tabled s events (h .judged) .few-conditions) };
           long = start-long;
           beside = of-lifted ∙ sym of-steps;
           short = omega (arith, of-steps, h .short);

@@ -16,7 +16,7 @@ use Rattle.step.specs.Lent.{Lent}
 use Rattle.played.specs.Played.{Plays}
 use Rattle.model.proofs.Lent.{length-bytes, begun-marking}
 use Rattle.step.proofs.Bytes.{lent-bytes}
-use Rattle.game.proofs.Marked.{conditions-are}
+use Rattle.table.proofs.Decoded.{conditions-are-all}
 
 module _ (s : List ℕ) (n : ℕ) (j : judgeOf s ≡ Fine n) (l : List ℕ) (begun : l ≡ bytes 256 (begin (netOf s))) where
   few : netOf s .conditions ≤ 256
@@ -28,7 +28,7 @@ module _ (s : List ℕ) (n : ℕ) (j : judgeOf s ≡ Fine n) (l : List ℕ) (beg
   pub begun-room : (conditions s ≤ length l) × (length l ≤ 256)
   begun-room =
       let long : length l ≡ 256 = ap length begun ∙ length-bytes 256 (begin (netOf s)) in
-      (omega (arith, few, conditions-are s n j, long), omega (arith, long))
+      (omega (arith, few, conditions-are-all s n j, long), omega (arith, long))
 
   pub begun-plays : (r : List ℕ) (answer : Judged) (last : List ℕ) → Plays (netOf s) (marking l) r answer last → Plays (netOf s) (begin (netOf s)) r answer last
   begun-plays r answer last p =

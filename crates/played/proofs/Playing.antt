@@ -33,9 +33,6 @@ use Rattle.game.specs.Calls.{stoppedAt}
 use Rattle.played.specs.Begun.{begunAt}
 use Rattle.played.specs.Played.{Plays}
 use Rattle.table.specs.Links.{refusedOr}
-use Rattle.game.specs.declared.Cause.{Cause}
-use Rattle.game.specs.declared.Step.{Step}
-use Rattle.game.specs.declared.Step.the-variants.{Goes, Stops}
 use Rattle.model.proofs.Lent.{length-bytes, tidy-marking, marking-bytes}
 use Rattle.step.proofs.Bytes.{lent-bytes}
 

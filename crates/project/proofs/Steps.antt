@@ -13,7 +13,6 @@ use borrow.Author.Tests.{eqb-true, eqb-false}
 use Rattle.lists.specs.Lists.{mem, keep}
 use Rattle.words.specs.Words.{words}
 use Rattle.records.specs.Records.{prePart}
-use Rattle.refusal.specs.declared.Judged.the-variants.{Fine}
 use Rattle.model.specs.Net.{Net, Marking, begin, can, fire, Stop, unknown, stopNumber, stopping}
 use Rattle.model.specs.Runs.{State, opening, step, after, runs}
 use Rattle.model.specs.Unfolding.{markers, reads, origin, basic}
@@ -26,7 +25,7 @@ use Rattle.model.proofs.Project.{project-from, back-can}
 use Rattle.model.proofs.Lent.{length-bytes, bytes-marking}
 use Rattle.table.specs.Walk.{offsetOf}
 use Rattle.table.specs.Decoded.{netOf}
-use Rattle.table.proofs.Decoded.{net-judged}
+use Rattle.table.proofs.Decoded.{events-are-all}
 use Rattle.table.proofs.Sound.{tabled}
 use Rattle.tally.proofs.Events.{within-limits, list-read, list-ascends, list-inside}
 use Rattle.layout.proofs.Counts.{sum-part}
@@ -112,7 +111,7 @@ module _ (s : List ℕ) (events : ℕ) (offsets ms us before begun : List ℕ) (
   j = getD w k 0
 
   pub all-events : events ≡ n .events
-  all-events = sym (ap (λ (x : Net). x .events) (net-judged s (Fine events) (q .judged)))
+  all-events = events-are-all s events (q .judged)
 
   pub few-events : events ≤ 256
   few-events = omega (arith, all-events, tabled s events (q .judged) .few-events)

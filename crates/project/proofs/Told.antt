@@ -23,7 +23,7 @@ use Rattle.refusal.proofs.Chain.{never-both, need-passes, need-refuses, then-fi
 use Rattle.table.specs.Walk.{judgeOf}
 use Rattle.table.specs.Decoded.{netOf}
 use Rattle.table.specs.Links.{refusedOr}
-use Rattle.table.proofs.Decoded.{net-judged}
+use Rattle.table.proofs.Decoded.{events-are-all}
 use Rattle.layout.specs.Laid.{Sums}
 use Rattle.across.specs.Calls.{fitted, numbersOf, acrossOf}
 use Rattle.across.specs.Prepared.{preparedOf, Ready}
@@ -77,7 +77,7 @@ module _ (s w out : List ℕ) where
     pub judged-is : (m : ℕ) → r ≡ Fine m → judgeOf s ≡ Fine m
     judged-is m f =
         let j = across-judged s (length w) (n .events) e f in
-        j .1 ∙ ap Fine (sym (ap (λ (x : Net). x .events) (net-judged s (Fine (j .0)) (j .1))) ∙ sym (all-events m f))
+        j .1 ∙ ap Fine (events-are-all s (j .0) (j .1) ∙ sym (all-events m f))
 
     module _ (m : ℕ) (f : r ≡ Fine m) (p : Judged) (l seen : List ℕ) (t : Replayed n w p l seen) where
       goes : projectOf s w (length out) ≡ fitted (projecting n w) (length out)

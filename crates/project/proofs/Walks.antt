@@ -24,7 +24,7 @@ use Rattle.refusal.specs.declared.Judged.the-variants.{Fine}
 use Rattle.refusal.proofs.Chain.{never-both}
 use Rattle.table.specs.Walk.{judgeOf}
 use Rattle.table.specs.Decoded.{netOf}
-use Rattle.table.proofs.Decoded.{net-judged}
+use Rattle.table.proofs.Decoded.{events-are-all}
 use Rattle.table.proofs.Sound.{tabled}
 use Rattle.step.specs.declared.Cause.{Cause}
 use Rattle.step.specs.declared.Step.{Step}
@@ -131,4 +131,4 @@ pub walk-on : (n : Net) (w : List ℕ) (k : ℕ) (r : Step) (a b d e : List ℕ)
 walk-on n w k r a b d e o z = subst (λ (y : Step). Stepped n w k y a b d e) z o
 
 pub few-judged : (s : List ℕ) (events : ℕ) → judgeOf s ≡ Fine events → events ≤ 256
-few-judged s events j = omega (arith, tabled s events j .few-events, ap (λ (x : Net). x .events) (net-judged s (Fine events) j))
+few-judged s events j = omega (arith, tabled s events j .few-events, events-are-all s events j)

@@ -22,8 +22,6 @@ use Rattle.step.specs.declared.Step.the-variants.{Goes, Stops}
 use Rattle.step.specs.Lent.{Lent}
 use Rattle.step.specs.Steps.{recordNet, causeNumber}
 use Rattle.played.specs.Played.{Indexed}
-use Rattle.game.specs.declared.Step.{Step}
-use Rattle.game.specs.declared.Step.the-variants.{Goes, Stops}
 use Rattle.across.specs.Prepared.{Between}
 use Rattle.decided.specs.Decided.{numberOfStop}
 use Rattle.decided.specs.Kept.{Kept}

@@ -24,12 +24,13 @@ use Rattle.refusal.proofs.Chain.{never-both, need-passes, then-fine}
 use Rattle.table.specs.Walk.{judgeOf}
 use Rattle.table.specs.Decoded.{netOf}
 use Rattle.table.specs.Links.{refusedOr}
+use Rattle.table.proofs.Decoded.{conditions-are-all}
 use Rattle.model.specs.Lent.{bytes, marking}
 use Rattle.game.specs.Calls.{onMarking, leaves, stoppedAt, firingOf, fireOf, firedOf}
 use Rattle.played.specs.Begun.{begunAt}
 use Rattle.replay.specs.Calls.{playedOf, endOver, replayOf, endOf, replayFromOf, endFromOf}
 use Rattle.exchange.specs.Calls.{swapping, exchangeOf, exchangedOf}
-use Rattle.game.proofs.Marked.{conditions-are, on-fine}
+use Rattle.game.proofs.Marked.{on-fine}
 use Rattle.promises.specs.Game.{Replayed, OneStep}
 
 -- ---- refusals change nothing
@@ -100,7 +101,7 @@ unfolding firingOf firedOf replayFromOf endFromOf endOver playedOf begunAt end r
 fire-replayed s m e c h =
     let k = on-fine s m (λ n. refusedOr (stoppedAt 0 (stopping (netOf s) (marking m) e)) (Fine (netOf s .conditions))) c h in
     let (o, v) = stopped-fine (stopping (netOf s) (marking m) e) (netOf s .conditions) c (k .goes) in
-    let count : length m ≡ netOf s .conditions = k .long ∙ sym (conditions-are s (k .events) (k .judged)) in
+    let count : length m ≡ netOf s .conditions = k .long ∙ conditions-are-all s (k .events) (k .judged) in
     let short : tooLong (e ∷ []) ≡ none = length-short (e ∷ []) (omega arith) in
     let free : stuck (replay (netOf s) 0 (begunAt (netOf s) (marking m)) (e ∷ [])) ≡ none
     = ap stuck (replay-go (netOf s) 0 (begunAt (netOf s) (marking m)) e [] o) in

@@ -15,9 +15,9 @@ use Rattle.model.specs.Numbering.{ways, size, width, conditionCount}
 use Rattle.model.proofs.Unfolded.{in-pre, in-post}
 use Rattle.model.proofs.Counts.{width-copies, count-conditions}
 use Rattle.table.specs.Decoded.{netOf}
+use Rattle.table.proofs.Decoded.{conditions-are-all}
 use Rattle.tally.specs.Having.{listOf, listPart, Listed, Members, Tally}
 use Rattle.records.specs.Records.{conditions}
-use Rattle.layout.proofs.Limits.{conditions-are-all}
 use Rattle.tally.proofs.Events.{judged, list-read, list-inside, list-ascends}
 use Rattle.unfolding.specs.Numbers.{choicesOf}
 use Rattle.unfolding.proofs.Numbered.{origin-is}

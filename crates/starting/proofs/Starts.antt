@@ -19,9 +19,10 @@ use Rattle.words.specs.Words.{wordAt}
 use Rattle.table.specs.Walk.{judgeOf}
 use Rattle.table.specs.Decoded.{netOf}
 use Rattle.table.proofs.Sound.{tabled}
+use Rattle.table.proofs.Decoded.{events-are-all}
 use Rattle.layout.specs.Laid.{Laid}
 use Rattle.layout.specs.Unfolds.{unfoldingOf}
-use Rattle.layout.proofs.Limits.{events-are-all, count-read, unfolds-on, unfolds-judged}
+use Rattle.layout.proofs.Limits.{count-read, unfolds-on, unfolds-judged}
 use Rattle.copies.specs.Copies.{copiesOf}
 use Rattle.copies.specs.Writing.{Roomy, Prepared}
 use Rattle.copies.proofs.Ends.{copies-begin}

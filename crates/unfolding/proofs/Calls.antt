@@ -13,8 +13,8 @@ use Rattle.refusal.specs.declared.Judged.the-variants.{Fine}
 use Rattle.records.specs.Records.{conditions}
 use Rattle.table.specs.Walk.{judgeOf}
 use Rattle.table.specs.Decoded.{netOf}
+use Rattle.table.proofs.Decoded.{conditions-are-all}
 use Rattle.layout.specs.Laid.{Laid}
-use Rattle.layout.proofs.Limits.{conditions-are-all}
 use Rattle.unfolding.proofs.Numbered.{events-basic}
 
 pub conditions-count : (s ms us bases : List ℕ) (k : ℕ) → Laid s ms us bases → judgeOf s ≡ Fine k → getD bases (conditions s) 0 ≡ basic (netOf s) .conditions

@@ -7,7 +7,7 @@ use Rattle.model.specs.Net.{begin}
 use Rattle.model.proofs.Lent.{length-bytes}
 use Rattle.table.specs.Decoded.{netOf}
 use Rattle.table.proofs.Sound.{tabled}
-use Rattle.game.proofs.Marked.{conditions-are}
+use Rattle.table.proofs.Decoded.{conditions-are-all}
 use Rattle.asking.specs.Calls.{startOf, startInto}
 use Rattle.asking.proofs.Listed.{listed-refused, start-fine}
 use Rattle.asking.proofs.start.Statement.{statement}
@@ -25,7 +25,7 @@ start-requires c κs =
 write-end-requires : tie.Need-write-end-requires
 write-end-requires c κs =
     let j = sym (c .before .before .before .before .before .before .before .before .before .judge .ensures) ∙ c .before .before .before .before .before .before .before .r .given .1 in
-    omega (arith, c .before .word .ensures, conditions-are _ _ j, tabled _ _ j .few-conditions, ap length (c .before .before .before .before .start .ensures), length-bytes 256 (begin (netOf (c .before .before .before .before .before .before .before .before .before .before .before .before .args .table .now))))
+    omega (arith, c .before .word .ensures, conditions-are-all _ _ j, tabled _ _ j .few-conditions, ap length (c .before .before .before .before .start .ensures), length-bytes 256 (begin (netOf (c .before .before .before .before .before .before .before .before .before .before .before .before .args .table .now))))
 
 returns-2 : tie.Need-returns-2
 returns-2 c =

@@ -10,8 +10,9 @@ use lib.Dec.{eqb}
 use native.Mathlib.Nat.{mul-le-mul}
 use Rattle.model.specs.Unfolding.{copy, sameMarker, markers, users}
 use Rattle.table.specs.Decoded.{netOf}
+use Rattle.table.proofs.Decoded.{conditions-are-all}
 use Rattle.layout.proofs.Counts.{marks-at, uses-at, counted-low}
-use Rattle.layout.proofs.Limits.{unfolds-passed, unfolds-on, unfolds-judged, conditions-are-all}
+use Rattle.layout.proofs.Limits.{unfolds-passed, unfolds-on, unfolds-judged}
 use Rattle.unfolding.specs.Markers.{meant}
 use Rattle.condition_numbers.specs.Answers.{numbered}
 use borrow.Author.Needs.{needs}

@@ -5,7 +5,8 @@ use Prim.Native.Nat.{_<_}
 use Rattle.refusal.specs.declared.Judged.the-variants.{Fine}
 use Rattle.model.specs.Unfolding.{ordinary}
 use Rattle.table.specs.Decoded.{netOf}
-use Rattle.layout.proofs.Limits.{unfolds-passed, unfolds-on, unfolds-judged, conditions-are-all}
+use Rattle.layout.proofs.Limits.{unfolds-passed, unfolds-on, unfolds-judged}
+use Rattle.table.proofs.Decoded.{conditions-are-all}
 use Rattle.condition_numbers.specs.Answers.{numbered}
 use Rattle.condition_numbers.proofs.Numbered.{ordinary-there, ordinary-past, ordinary-not}
 use borrow.Author.Needs.{needs}

@@ -1,6 +1,6 @@
 -- `ends::write_marking` meets its contract.
+use Rattle.table.proofs.Decoded.{events-are-all}
 use Rattle.starting.proofs.Starts.{count-is}
-use Rattle.layout.proofs.Limits.{events-are-all}
 use Rattle.ends.proofs.Written.{prepared, short, roomy}
 use mathlib.Core.Path.{_∙_}
 use native.Mathlib.Omega.{arith}

@@ -4,8 +4,9 @@ use mathlib.Core.Path.{_∙_, sym}
 use Rattle.refusal.specs.declared.Judged.the-variants.{Fine}
 use Rattle.refusal.proofs.Chain.{never-both}
 use Rattle.table.specs.Decoded.{netOf}
+use Rattle.table.proofs.Decoded.{events-are-all, conditions-are-all}
 use Rattle.layout.proofs.Counts.{counted-low}
-use Rattle.layout.proofs.Limits.{table-refused, events-are-all, conditions-are-all, counted, sums-read}
+use Rattle.layout.proofs.Limits.{table-refused, counted, sums-read}
 use borrow.Author.Needs.{needs}
 use Rattle.layout.proofs.lay_out.Statement.{statement}
 use Rattle.layout.proofs.lay_out.Tie as tie

@@ -7,9 +7,10 @@ use Rattle.refusal.proofs.Chain.{never-both}
 use Rattle.model.specs.Across.{mostUnfolded}
 use Rattle.model.specs.Numbering.{conditionCount, eventCount}
 use Rattle.table.specs.Decoded.{netOf}
+use Rattle.table.proofs.Decoded.{events-are-all}
 use lib.ListN.{getD}
 use Rattle.layout.specs.Colours.{cappedCount}
-use Rattle.layout.proofs.Limits.{idle-refused, all-touch, conditions-over, events-over, goes-on, count-whole, events-are-all, count-read}
+use Rattle.layout.proofs.Limits.{idle-refused, all-touch, conditions-over, events-over, goes-on, count-whole, count-read}
 use borrow.Author.Needs.{needs}
 use Rattle.layout.proofs.within_limits.Statement.{statement}
 use Rattle.layout.proofs.within_limits.Tie as tie

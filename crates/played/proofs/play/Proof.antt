@@ -1,12 +1,12 @@
 -- `played::play` meets its contract.
 use Prim.Native.Nat.{_-_}
 use native.Mathlib.Omega.{arith}
-use mathlib.Core.Path.{_∙_, sym}
+use mathlib.Core.Path.{_∙_}
 use lib.ListN.{length}
 use Rattle.table.specs.Decoded.{netOf}
 use Rattle.table.proofs.Sound.{accepted-sound}
+use Rattle.table.proofs.Decoded.{conditions-are-all}
 use Rattle.model.specs.Lent.{marking}
-use Rattle.game.proofs.Marked.{conditions-are}
 use Rattle.played.proofs.Playing.{Going, going-start, step-on, step-ends, too-long, comes-to-end}
 use borrow.Author.Needs.{needs}
 use Rattle.played.proofs.play.Statement.{statement}
@@ -22,7 +22,7 @@ abbrev μ-loop : tie.MeasureT-loop
 
 returns : tie.Need-returns Inv-loop μ-loop
 returns c =
-    too-long _ _ _ _ (c .before .before .before .before .before .before .pre .lents) (omega (arith, c .before .before .before .before .before .before .pre .room .0, conditions-are _ _ (c .before .before .before .before .before .before .pre .judged))) (c .before .if1 .taken) _ (c .refused .ensures)
+    too-long _ _ _ _ (c .before .before .before .before .before .before .pre .lents) (omega (arith, c .before .before .before .before .before .before .pre .room .0, conditions-are-all _ _ (c .before .before .before .before .before .before .pre .judged))) (c .before .if1 .taken) _ (c .refused .ensures)
 
 loop-holds : tie.Need-loop-holds Inv-loop μ-loop
 loop-holds c =
@@ -34,15 +34,15 @@ step-event-requires c κs =
 
 returns-2 : tie.Need-returns-2 Inv-loop μ-loop
 returns-2 c =
-    step-ends _ _ _ _ _ _ (c .before .before .before .before .before .before .before .before .before .loop .inv) (c .before .before .before .before .before .before .before .before .loop-test .taken) _ (c .before .before .before .before .before .step-event .ensures .0) _ (c .before .before .before .before .before .step-event .ensures .1) (omega (arith, c .before .before .before .before .before .before .before .before .before .before .before .before .before .before .before .pre .room .0, conditions-are _ _ (c .before .before .before .before .before .before .before .before .before .before .before .before .before .before .before .pre .judged))) (c .before .before .before .before .before .before .before .before .before .before .if1 .left) _ (c .before .enum-told2 .given .1) _ (c .answered .ensures)
+    step-ends _ _ _ _ _ _ (c .before .before .before .before .before .before .before .before .before .loop .inv) (c .before .before .before .before .before .before .before .before .loop-test .taken) _ (c .before .before .before .before .before .step-event .ensures .0) _ (c .before .before .before .before .before .step-event .ensures .1) (omega (arith, c .before .before .before .before .before .before .before .before .before .before .before .before .before .before .before .pre .room .0, conditions-are-all _ _ (c .before .before .before .before .before .before .before .before .before .before .before .before .before .before .before .pre .judged))) (c .before .before .before .before .before .before .before .before .before .before .if1 .left) _ (c .before .enum-told2 .given .1) _ (c .answered .ensures)
 
 loop-again : tie.Need-loop-again Inv-loop μ-loop
 loop-again c =
-    step-on _ _ _ _ _ _ (c .before .before .before .before .before .before .before .before .loop .inv) (c .before .before .before .before .before .before .before .loop-test .taken) _ (c .before .before .before .before .step-event .ensures .0) _ (c .before .before .before .before .step-event .ensures .1) (accepted-sound _ _ (c .before .before .before .before .before .before .before .before .before .before .before .before .before .before .pre .judged)) (omega (arith, c .before .before .before .before .before .before .before .before .before .before .before .before .before .before .pre .room .0, conditions-are _ _ (c .before .before .before .before .before .before .before .before .before .before .before .before .before .before .pre .judged))) (c .enum-told .given .1)
+    step-on _ _ _ _ _ _ (c .before .before .before .before .before .before .before .before .loop .inv) (c .before .before .before .before .before .before .before .loop-test .taken) _ (c .before .before .before .before .step-event .ensures .0) _ (c .before .before .before .before .step-event .ensures .1) (accepted-sound _ _ (c .before .before .before .before .before .before .before .before .before .before .before .before .before .before .pre .judged)) (omega (arith, c .before .before .before .before .before .before .before .before .before .before .before .before .before .before .pre .room .0, conditions-are-all _ _ (c .before .before .before .before .before .before .before .before .before .before .before .before .before .before .pre .judged))) (c .enum-told .given .1)
 
 returns-3 : tie.Need-returns-3 Inv-loop μ-loop
 returns-3 c =
-    comes-to-end _ _ _ _ _ _ (c .before .before .loop .inv) (omega (arith, c .before .before .before .before .before .before .before .before .pre .room .0, conditions-are _ _ (c .before .before .before .before .before .before .before .before .pre .judged))) (c .before .loop-test .left) (c .before .before .before .if1 .left) _ (c .word .ensures ∙ sym (conditions-are _ _ (c .before .before .before .before .before .before .before .before .pre .judged)))
+    comes-to-end _ _ _ _ _ _ (c .before .before .loop .inv) (omega (arith, c .before .before .before .before .before .before .before .before .pre .room .0, conditions-are-all _ _ (c .before .before .before .before .before .before .before .before .pre .judged))) (c .before .loop-test .left) (c .before .before .before .if1 .left) _ (c .word .ensures ∙ conditions-are-all _ _ (c .before .before .before .before .before .before .before .before .pre .judged))
 
 pub play-spec : {M : Type 1} → statement M
 play-spec =

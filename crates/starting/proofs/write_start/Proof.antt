@@ -2,7 +2,7 @@
 use mathlib.Core.Path.{refl}
 use lib.ListN.{length}
 use Rattle.model.proofs.Lent.{zeros-lent}
-use Rattle.layout.proofs.Limits.{events-are-all}
+use Rattle.table.proofs.Decoded.{events-are-all}
 use Rattle.starting.proofs.Starts.{start-prepared, start-written}
 use borrow.Author.Needs.{needs}
 use Rattle.starting.proofs.write_start.Statement.{statement}
