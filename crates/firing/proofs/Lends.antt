@@ -1,12 +1,10 @@
 -- A table laid out with a lent unfolded marking, and what the call answers after it.
-use mathlib.Core.Path.{_≡_, refl, sym, _∙_, ap}
-use mathlib.Core.Bool.{Bool, true, false, cond}
-use mathlib.Core.List.{List, [], _∷_}
-use Prim.Native.Nat.{ℕ, zero, suc, _+_, _≤_, _<_}
-use lib.Dec.{ltb}
+use mathlib.Core.Path.{_≡_, sym, _∙_, ap}
+use mathlib.Core.List.{List}
+use Prim.Native.Nat.{ℕ, _+_, _≤_, _<_}
 use lib.ListN.{length, getD}
 use native.Mathlib.Omega.{arith}
-use borrow.Author.Tests.{ltb-false, le-ltb}
+use borrow.Author.Tests.{le-ltb}
 use Rattle.lists.specs.Lists.{sum}
 use Rattle.model.specs.Net.{fire, stopping}
 use Rattle.model.specs.Unfolding.{basic}
@@ -30,23 +28,12 @@ use Rattle.game.specs.Lent.{firstAbove, lent}
 use Rattle.game.specs.Calls.{stoppedAt, leaves}
 use Rattle.step.specs.Steps.{stepped}
 use Rattle.step.proofs.Bytes.{lent-of}
-use Rattle.game.proofs.Marked.{wrong-length, byte-above, all-right}
+use Rattle.game.proofs.Marked.{wrong-length, byte-above, all-right, none-above}
 use Rattle.walking.specs.declared.Step.{Step}
 use Rattle.firing.specs.Calls.{unfoldedFireOf, unfoldedFiredOf}
 use Rattle.walking.specs.Steps.{stepOf}
 use Rattle.firing.specs.Steps.{answeredOf, Lending}
 use Rattle.firing.proofs.Fired.{stops-past, answers, leaves-so}
-
--- no byte above 1
-none-above : (l : List ℕ) → length l ≤ firstAbove l → (i : ℕ) → i < length l → getD l i 0 ≤ 1
-none-above [] h i p = absurd (omega arith)
-none-above (x ∷ l) h i p = go (ltb 1 x) refl h i p (λ q j r. none-above l q j r)
-  where
-    go : (t : Bool) → ltb 1 x ≡ t → suc (length l) ≤ cond t 0 (suc (firstAbove l)) → (i : ℕ) → i < suc (length l)
-        → (length l ≤ firstAbove l → (j : ℕ) → j < length l → getD l j 0 ≤ 1) → getD (x ∷ l) i 0 ≤ 1
-    go true e h i p ih = absurd (omega arith)
-    go false e h zero p ih = ltb-false 1 x e
-    go false e h (suc i) p ih = ih (omega arith) i (omega arith)
 
 -- ---- the table and the marking
 

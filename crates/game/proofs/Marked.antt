@@ -50,7 +50,7 @@ module _ (c : ℕ) (l : List ℕ) (rest : Judged) where
       ∙ ap (need (eqb (length l) c) 18 c) (then-need (leb (length l) (firstAbove l)) 18 (firstAbove l) rest f)
 
 -- no byte above 1
-none-above : (l : List ℕ) → length l ≤ firstAbove l → (i : ℕ) → i < length l → getD l i 0 ≤ 1
+pub none-above : (l : List ℕ) → length l ≤ firstAbove l → (i : ℕ) → i < length l → getD l i 0 ≤ 1
 none-above [] h i p = absurd (omega arith)
 none-above (x ∷ l) h i p = go (ltb 1 x) refl h i p (λ q j r. none-above l q j r)
   where
