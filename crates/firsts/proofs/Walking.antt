@@ -7,7 +7,6 @@ use mathlib.Core.List.{List, [], _∷_}
 use lib.ListN.{length, getD, length-replicate}
 use Rattle.lists.specs.Lists.{mem, any}
 use Rattle.words.specs.Words.{words}
-use Rattle.model.specs.Net.{Net}
 use Rattle.model.specs.Runs.{atStart, byEvent, marker, orElse}
 use Rattle.model.specs.Across.{marks}
 use Rattle.refusal.specs.declared.Marker.the-variants.{Start, ByEvent}
@@ -15,11 +14,12 @@ use Rattle.refusal.specs.declared.Judged.the-variants.{Fine}
 use Rattle.records.specs.Records.{markingPart}
 use Rattle.table.specs.Walk.{judgeOf, offsetOf}
 use Rattle.table.specs.Decoded.{netOf}
-use Rattle.table.proofs.Decoded.{net-judged, start-read, events-are-all}
+use Rattle.table.proofs.Decoded.{start-read, events-are-all}
 use Rattle.table.proofs.Sound.{tabled}
 use Rattle.tally.specs.Having.{listPart}
 use Rattle.tally.proofs.Events.{list-read, list-inside}
 use Rattle.layout.specs.Colours.{flagged}
+use Rattle.layout.proofs.Limits.{flags-are}
 use Rattle.firsts.specs.declared.First.the-variants.{Unset}
 use Rattle.firsts.specs.declared.Slot.{Slot}
 use Rattle.firsts.specs.declared.Repeat.{Repeat}
@@ -33,9 +33,6 @@ unfolding noSlots
 no-slots-length = length-replicate {A = Slot} 256 (record { 0 = Unset })
 
 module _ (s : List ℕ) (events : ℕ) (j : judgeOf s ≡ Fine events) where
-  flag : (b : ℕ) → flagged s b ≡ netOf s .persistent b
-  flag b = sym (ap (λ (n : Net). n .persistent b) (net-judged s (Fine events) j))
-
   pub few-events : events < 257
   few-events = omega (arith, tabled s events j .few-events, events-are-all s events j)
 
@@ -56,7 +53,7 @@ module _ (s : List ℕ) (events : ℕ) (j : judgeOf s ≡ Fine events) where
       start-first b h =
           ap (λ (x : List Slot). firstAt x b) e
           ∙ all-first s noSlots Start (words part) b (omega (arith, no-slots-length))
-          ∙ rw (none-set b, flag b, start-is)
+          ∙ rw (none-set b, flags-are s events j b, start-is)
 
   -- ---- an event's postconditions
 
@@ -73,7 +70,7 @@ module _ (s : List ℕ) (events : ℕ) (j : judgeOf s ≡ Fine events) where
       where
         any-same : (l : List ℕ) → any (flagged s) l ≡ any (netOf s .persistent) l
         any-same [] = refl
-        any-same (b ∷ l) = rw (flag b, any-same l)
+        any-same (b ∷ l) = rw (flags-are s events j b, any-same l)
 
     module _ (slots slots′ : List Slot) (w : length slots ≡ 256) (z : slots′ ≡ markAll s slots (ByEvent (record { 0 = e })) (words post)) where
       pub post-length : length slots′ ≡ 256
@@ -83,7 +80,7 @@ module _ (s : List ℕ) (events : ℕ) (j : judgeOf s ≡ Fine events) where
       post-first b g =
           ap (λ (x : List Slot). firstAt x b) z
           ∙ all-first s slots (ByEvent (record { 0 = e })) (words post) b (omega (arith, w))
-          ∙ rw (flag b, post-is)
+          ∙ rw (flags-are s events j b, post-is)
 
 -- ---- the step that a walk is at
 

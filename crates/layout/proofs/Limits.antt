@@ -22,7 +22,7 @@ use Rattle.table.specs.Links.{refusedOr}
 use Rattle.table.proofs.Decoded.{net-judged, events-are-all, conditions-are-all}
 use Rattle.table.proofs.Sound.{tabled}
 use Rattle.tally.specs.Having.{Tally}
-use Rattle.layout.specs.Colours.{cappedCount, idleOr, eventsOf, widthAt}
+use Rattle.layout.specs.Colours.{flagged, cappedCount, idleOr, eventsOf, widthAt}
 use Rattle.layout.specs.Unfolds.{unfoldingOf}
 use Rattle.layout.specs.Laid.{Sums, Counted}
 use Rattle.layout.proofs.Counts.{sum-same, sum-capped, sum-capped-low, width-read}
@@ -91,13 +91,16 @@ count-whole n h = sum-capped (size n) (n .events) h
 -- ---- what is laid out
 
 module _ (s : List ℕ) (k : ℕ) (j : judgeOf s ≡ Fine k) where
+  pub flags-are : (b : ℕ) → flagged s b ≡ netOf s .persistent b
+  flags-are b = sym (ap (λ (n : Net). n .persistent b) (net-judged s (Fine k) j))
+
   pub counted : (ms us : List ℕ) → Tally (netOf s) true 1 k ms → Tally (netOf s) false 0 k us → Counted s ms us
   counted ms us m u =
       record {
         marked =
             record {
               limits = tabled s k j;
-              flags = λ b. sym (ap (λ (n : Net). n .persistent b) (net-judged s (Fine k) j));
+              flags = flags-are;
               marks = subst (λ (x : ℕ). Tally (netOf s) true 1 x ms) (events-are-all s k j) m;
             };
         uses = subst (λ (x : ℕ). Tally (netOf s) false 0 x us) (events-are-all s k j) u;
