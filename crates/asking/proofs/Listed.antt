@@ -1,10 +1,9 @@
 -- A list asked for: what is answered and left where the asking is refused and where it is fine, and the lists of a table.
 use Prim.Native.Nat.{ℕ, _≤_}
 use native.Mathlib.Omega.{arith}
-use mathlib.Core.Path.{_≡_, refl, sym, ap, _∙_}
-use mathlib.Core.List.{List, _++_}
-use lib.Dec.{leb}
-use lib.ListN.{length, getD, take, drop}
+use mathlib.Core.Path.{_≡_, sym, ap, _∙_}
+use mathlib.Core.List.{List}
+use lib.ListN.{length, getD, take}
 use lib.Seq.{getD-take, length-take-le}
 use Rattle.words.specs.Words.{words}
 use Rattle.model.specs.Net.{begin, Marking}
@@ -13,7 +12,7 @@ use Rattle.model.proofs.Lent.{length-bytes, bytes-at, bytes-are}
 use Rattle.refusal.specs.declared.Refusal.{Refusal}
 use Rattle.refusal.specs.declared.Judged.{Judged}
 use Rattle.refusal.specs.declared.Judged.the-variants.{Fine, Refused}
-use Rattle.refusal.specs.Answer.{need, andThen, fitting, written}
+use Rattle.refusal.specs.Answer.{andThen, fitting, written}
 use Rattle.records.specs.Records.{conditions, prePart, postPart}
 use Rattle.table.specs.Walk.{judgeOf}
 use Rattle.parts.specs.Asked.{askedOf}
@@ -21,7 +20,6 @@ use Rattle.table.specs.Decoded.{netOf}
 use Rattle.parts.proofs.Asking.{asked-fine}
 use Rattle.table.proofs.Sound.{tabled}
 use Rattle.table.proofs.Decoded.{conditions-are-all}
-use Rattle.game.specs.Calls.{leaves}
 use Rattle.asking.specs.Calls.{startOf, startInto}
 
 -- An asking x for a list of which so many fit.
@@ -57,20 +55,14 @@ first-bytes c d m l h e =
     bytes-are (take c l) c m (length-take-le c l (omega arith))
     (λ i p. getD-take c l i 0 p ∙ ap (λ (x : List ℕ). getD x i 0) e ∙ bytes-at d m i (omega arith))
 
--- What is left by a call that writes a list of so many elements.
-pub left-written : (r : Judged) (l out : List ℕ) (count : ℕ) → length l ≡ count → leaves r (l ++ drop count out) out ≡ written r l out
-left-written (Fine value) l out count e = ap (λ (k : ℕ). l ++ drop k out) (sym e)
-left-written (Refused refusal) l out count e = refl
-
 -- The start of a judged table, once its marking is there as bytes.
 pub start-fine : (s : List ℕ) (n : ℕ) → judgeOf s ≡ Fine n → (state : List ℕ) → state ≡ bytes 256 (begin (netOf s)) → (count : ℕ) → count ≡ conditions s
-    → (out after : List ℕ) (r : Judged) → r ≡ need (leb count (length out)) 16 count (Fine count) → after ≡ leaves r (take count state ++ drop count out) out
+    → (out after : List ℕ) (r : Judged) → r ≡ fitting count (length out) → after ≡ written r (take count state) out
     → (r ≡ startOf s (length out)) × (after ≡ startInto s out)
-unfolding startOf startInto fitting
+unfolding startOf startInto
 start-fine s n j state b count k out after r f g =
     let same : count ≡ netOf s .conditions = k ∙ conditions-are-all s n j in
     let few : count ≤ 256 = omega (arith, same, tabled s n j .few-conditions) in
     let first : take count state ≡ bytes count (begin (netOf s)) = first-bytes count 256 (begin (netOf s)) state few b in
-    let long : length (take count state) ≡ count = ap length first ∙ length-bytes count (begin (netOf s)) in
     listed-fine (judgeOf s) (bytes (netOf s .conditions) (begin (netOf s))) out (netOf s .conditions) n j r (take count state) after count
-    (first ∙ ap (λ (x : ℕ). bytes x (begin (netOf s))) same) same f (g ∙ left-written r (take count state) out count long)
+    (first ∙ ap (λ (x : ℕ). bytes x (begin (netOf s))) same) same f g

@@ -31,7 +31,7 @@ use Rattle.exchange.specs.Calls.{swapping, exchangeOf, exchangedOf}
 use Rattle.apart.specs.Found.{Found}
 use Rattle.exchange.specs.Played.{Exchangeable}
 use Rattle.played.specs.Played.{Plays}
-use Rattle.played.proofs.Passing.{left-refused}
+use Rattle.game.specs.Calls.{leaves}
 
 -- ---- a run and the steps before k
 
@@ -108,7 +108,7 @@ module _ (s r : List ℕ) (k : ℕ) where
   -- a refusal leaves the run as it was
   pub kept-run : (a : Judged) (x : table.Refusal) → a ≡ Refused x → a ≡ exchangeOf s r k → (a ≡ exchangeOf s r k) × (r ≡ exchangedOf s r k)
   unfolding exchangedOf
-  kept-run a x e h = (h, left-refused (exchangeOf s r k) x (exchanged k r) r (sym h ∙ e))
+  kept-run a x e h = (h, sym (ap (λ (y : Judged). leaves y (exchanged k r) r) (sym h ∙ e)))
 
   module _ (n : ℕ) (j : judgeOf s ≡ Fine n) where
     abbrev rest : Judged

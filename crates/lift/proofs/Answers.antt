@@ -19,7 +19,7 @@ use Rattle.refusal.specs.declared.Refusal as declared
 use Rattle.refusal.specs.declared.Judged.{Judged}
 use Rattle.refusal.specs.declared.Judged.the-variants.{Fine, Refused}
 use Rattle.refusal.specs.Answer.{refusedAt, fitting, written}
-use Rattle.refusal.proofs.Chain.{then-fine, fitting-room, fitting-short}
+use Rattle.refusal.proofs.Chain.{then-fine, fitting-room, fitting-short, written-refused}
 use Rattle.table.specs.Walk.{judgeOf}
 use Rattle.table.specs.Decoded.{netOf}
 use Rattle.table.specs.Tabled.{Tabled}
@@ -59,9 +59,6 @@ across-open s r e =
 lift-is : (s r : List ℕ) → acrossOf s r (Fine 0) ≡ Fine 0 → lift (netOf s) r ≡ liftingOf (netOf s) r
 unfolding lift
 lift-is s r e = let o = across-open s r e in rw (o .0, o .1)
-
-pub written-refused : (a : Judged) (x : declared.Refusal) (w out : List ℕ) → a ≡ Refused x → out ≡ written a w out
-written-refused a x w out e = rw e
 
 -- a refused call leaves the output
 pub lift-refused : (s r out : List ℕ) {a : Judged} {x : declared.Refusal} → a ≡ Refused x → a ≡ liftOf s r (length out) → (a ≡ liftOf s r (length out)) × (out ≡ liftedOf s r out)

@@ -2,10 +2,10 @@
 use Prim.Native.Nat.{ℕ, suc, _+_, _≤_, _<_}
 use native.Mathlib.Numerals.{add-one}
 use native.Mathlib.Omega.{arith}
-use mathlib.Core.Path.{_≡_, ap, _∙_, subst}
+use mathlib.Core.Path.{_≡_, sym, ap, _∙_, subst}
 use mathlib.Core.List.{List, _++_}
 use lib.ListN.{length, getD, take, drop, set, length-set}
-use lib.Seq.{paste, paste-suc}
+use lib.Seq.{paste, paste-suc, length-take-le}
 
 pub record Copied (from : List ℕ) (c : ℕ) (out₀ out : List ℕ) (i : ℕ) : Type 0 where
   pub upto : i ≤ c
@@ -29,3 +29,7 @@ copy-end from c out₀ out i g h =
     let e : i ≡ c = omega (arith, g .upto) in
     let z : 0 + c ≡ c = omega arith in
     rw z at (g .is ∙ ap (paste out₀ 0 from) e)
+
+-- a front that was copied is written
+pub front-written : (count : ℕ) (l out after : List ℕ) → count ≤ length l → after ≡ take count l ++ drop count out → after ≡ take count l ++ drop (length (take count l)) out
+front-written count l out after h e = e ∙ ap (λ (k : ℕ). take count l ++ drop k out) (sym (length-take-le count l h))

@@ -3,4 +3,3 @@ pub mod Index
 pub mod Playing
 pub mod Begun
 pub mod Copying
-pub mod Passing

@@ -6,15 +6,13 @@ ghost use mathlib.Core.Path.{_≡_};
 ghost use mathlib.Core.List.{_++_};
 ghost use Prim.Native.Nat.{_≤_};
 ghost use lib.ListN.{length, take, drop, replicate};
-ghost use lib.Dec.{leb};
 ghost use Rattle.model.specs.Net.{begin, stopping, fire};
 ghost use Rattle.table.specs.Walk.{judgeOf};
 ghost use Rattle.table.specs.Decoded.{netOf};
-ghost use Rattle.refusal.specs.Answer.{need};
+ghost use Rattle.refusal.specs.Answer.{fitting, written};
 ghost use Rattle.model.specs.Lent.{bytes, marking};
 ghost use Rattle.refusal.specs.declared.Judged.the-variants.{Fine};
 ghost use Rattle.step.specs.Steps.{stepOf, stepped};
-ghost use Rattle.game.specs.Calls.{leaves};
 ghost use Rattle.played.specs.Played.{Indexed, Playable, Plays};
 
 // The offset of each event of a judged table, by its number.
@@ -98,8 +96,8 @@ pub fn copy_front(from: &[u8], count: usize, out: &mut [u8])
 // The end of a run over the first bytes of a lent output, where it has room.
 pub fn write_end(state: &[u8], count: usize, end: &mut [u8]) -> Judged
     requires { ⌜ count ≤ length (now state) ⌝ }
-    ensures answer { λ r. ⌜ r ≡ need (leb count (length (now (end .entry)))) 16 count (Fine count) ⌝ }
-    ensures after { λ r. ⌜ now (end .exit) ≡ leaves r (take count (now (state .entry)) ++ drop count (now (end .entry))) (now (end .entry)) ⌝ }
+    ensures answer { λ r. ⌜ r ≡ fitting count (length (now (end .entry))) ⌝ }
+    ensures after { λ r. ⌜ now (end .exit) ≡ written r (take count (now (state .entry))) (now (end .entry)) ⌝ }
 {
     if end.len() < count {
         return refusal::refused(16, count);

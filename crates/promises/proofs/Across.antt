@@ -9,7 +9,6 @@ use Prim.Native.Nat.{ℕ, zero, suc, _≤_, _<_}
 use native.Mathlib.Omega.{arith}
 use lib.Dec.{T, leb}
 use lib.ListN.{length, take, drop}
-use borrow.Author.Tests.{le-leb}
 use Rattle.model.specs.Net.{Net, Marking, begin, unknown, lacks, meets}
 use Rattle.model.specs.Runs.{runs, end, opening, replay}
 use Rattle.model.specs.Unfolding.{basic}
@@ -25,7 +24,7 @@ use Rattle.refusal.specs.declared.Judged.{Judged}
 use Rattle.refusal.specs.declared.Judged.the-variants.{Fine}
 use Rattle.refusal.specs.Answer as refused
 use Rattle.refusal.specs.Answer.{refusedAt, need, fitting, written}
-use Rattle.refusal.proofs.Chain.{never-both, need-passes, then-fine, fitting-room, written-front}
+use Rattle.refusal.proofs.Chain.{never-both, then-fine, fitting-room, written-front}
 use Rattle.table.specs.Walk.{judgeOf}
 use Rattle.table.specs.Decoded.{netOf}
 use Rattle.table.proofs.Sound.{accepted-sound}
@@ -77,7 +76,7 @@ module _ (s : List ℕ) (n : ℕ) (j : judgeOf s ≡ Fine n) where
   replay-given : (r : List ℕ) (room : ℕ) → length r ≤ mostSteps → T (runs (netOf s) (begin (netOf s)) r) → netOf s .conditions ≤ room → replayOf s r room ≡ Fine (netOf s .conditions)
   unfolding replayOf playedOf opening
   replay-given r room short t h =
-      rw (j, length-short r short, stuck-none (netOf s) 0 (opening (netOf s)) r t) (need-passes 16 (netOf s .conditions) (le-leb (netOf s .conditions) room h))
+      rw (j, length-short r short, stuck-none (netOf s) 0 (opening (netOf s)) r t) (fitting-room (netOf s .conditions) room h)
 
 -- what is read back has as many steps
 project-length : (n : Net) (w r : List ℕ) → Projects n w r → length r ≡ length w

@@ -5,9 +5,7 @@ use mathlib.Core.Option.{Option, none, some}
 use mathlib.Core.List.{List, [], _∷_, _++_, append-nil}
 use Prim.Native.Nat.{ℕ}
 use native.Mathlib.Omega.{arith}
-use lib.Dec.{leb}
-use lib.ListN.{length, drop, drop-of-length-le}
-use borrow.Author.Tests.{le-leb}
+use lib.ListN.{length, drop-of-length-le}
 use Rattle.model.specs.Net.{Marking, begin, fire, Stop, stopping}
 use Rattle.model.specs.Runs.{end, opening, replay}
 use Rattle.model.specs.Exchange.{exchanged}
@@ -16,11 +14,12 @@ use Rattle.model.proofs.Replay.{replay-runs, replay-go}
 use Rattle.model.proofs.Answers.{unless-run, exchanging-run, length-short}
 use Rattle.model.proofs.Exchange.{exchanged-short}
 use Rattle.model.proofs.Demands.{exchange-exchanged}
+use Rattle.model.proofs.Lent.{length-bytes}
 use Rattle.refusal.specs.declared.Refusal.{Refusal}
 use Rattle.refusal.specs.declared.Judged.{Judged}
 use Rattle.refusal.specs.declared.Judged.the-variants.{Fine, Refused}
-use Rattle.refusal.specs.Answer.{need}
-use Rattle.refusal.proofs.Chain.{never-both, need-passes, then-fine}
+use Rattle.refusal.specs.Answer.{written}
+use Rattle.refusal.proofs.Chain.{never-both, then-fine, fitting-room, written-refused}
 use Rattle.table.specs.Walk.{judgeOf}
 use Rattle.table.specs.Decoded.{netOf}
 use Rattle.table.specs.Links.{refusedOr}
@@ -28,7 +27,7 @@ use Rattle.table.proofs.Decoded.{conditions-are-all}
 use Rattle.model.specs.Lent.{bytes, marking}
 use Rattle.game.specs.Calls.{onMarking, leaves, stoppedAt, firingOf, fireOf, firedOf}
 use Rattle.played.specs.Begun.{begunAt}
-use Rattle.replay.specs.Calls.{playedOf, endOver, replayOf, endOf, replayFromOf, endFromOf}
+use Rattle.replay.specs.Calls.{playedOf, replayOf, endOf, replayFromOf, endFromOf}
 use Rattle.exchange.specs.Calls.{swapping, exchangeOf, exchangedOf}
 use Rattle.game.proofs.Marked.{on-fine}
 use Rattle.promises.specs.Game.{Replayed, OneStep}
@@ -47,12 +46,12 @@ fire-unchanged s m e x h = unchanged (fireOf s m e) x (bytes (netOf s .condition
 -- A refused replay leaves the lent output as it was.
 pub replay-unchanged : (s r out : List ℕ) (x : Refusal) → replayOf s r (length out) ≡ Refused x → endOf s r out ≡ out
 unfolding endOf
-replay-unchanged s r out x h = unchanged (replayOf s r (length out)) x (endOver (netOf s) (begin (netOf s)) r out) out h
+replay-unchanged s r out x h = sym (written-refused (replayOf s r (length out)) x (bytes (netOf s .conditions) (end (netOf s) (begin (netOf s)) r)) out h)
 
 -- So does a refused replay from a lent marking.
 pub replay-from-unchanged : (s m r out : List ℕ) (x : Refusal) → replayFromOf s m r (length out) ≡ Refused x → endFromOf s m r out ≡ out
 unfolding endFromOf
-replay-from-unchanged s m r out x h = unchanged (replayFromOf s m r (length out)) x (endOver (netOf s) (marking m) r out) out h
+replay-from-unchanged s m r out x h = sym (written-refused (replayFromOf s m r (length out)) x (bytes (netOf s .conditions) (end (netOf s) (marking m) r)) out h)
 
 -- A refused exchange leaves the lent run as it was.
 pub exchange-unchanged : (s r : List ℕ) (k : ℕ) (x : Refusal) → exchangeOf s r k ≡ Refused x → exchangedOf s r k ≡ r
@@ -67,7 +66,7 @@ swapping-fine (refusal x) c e = never-both (sym e)
 
 -- What a fine exchange leaves is replayed with the same answer and the same end.
 pub exchange-replayed : (s r : List ℕ) (k c : ℕ) → exchangeOf s r k ≡ Fine c → (out : List ℕ) → Replayed s r k out
-unfolding exchangeOf exchangedOf replayOf endOf endOver playedOf opening exchange
+unfolding exchangeOf exchangedOf replayOf endOf playedOf opening exchange
 exchange-replayed s r k c h out =
     let (n, j, f) = then-fine (judgeOf s) (λ n. swapping (exchange (netOf s) r k)) c h in
     let (w, a) = swapping-fine (exchange (netOf s) r k) c f in
@@ -80,13 +79,13 @@ exchange-replayed s r k c h out =
     let same : replayOf s (exchanged k r) (length out) ≡ replayOf s r (length out) = simp (exchanged-short k r short, short, old, new) in
     record {
       accepted = λ room.
-          let fits = need-passes 16 (netOf s .conditions) (le-leb (netOf s .conditions) (length out) room) in
+          let fits = fitting-room (netOf s .conditions) (length out) room in
           let taken : replayOf s r (length out) ≡ Fine (netOf s .conditions) = rw (j, short, old) fits in
           ap (λ (x : List ℕ). replayOf s x (length out)) left ∙ same ∙ taken;
       answer = ap (λ (x : List ℕ). replayOf s x (length out)) left ∙ same;
       same-end = ap (λ (x : List ℕ). endOf s x out) left
-          ∙ ap (λ (x : Judged). leaves x (endOver (netOf s) (begin (netOf s)) (exchanged k r) out) out) same
-          ∙ ap (λ (m : Marking). leaves (replayOf s r (length out)) (bytes (netOf s .conditions) m ++ drop (netOf s .conditions) out) out) (d .same-end);
+          ∙ ap (λ (x : Judged). written x (bytes (netOf s .conditions) (end (netOf s) (begin (netOf s)) (exchanged k r))) out) same
+          ∙ ap (λ (m : Marking). written (replayOf s r (length out)) (bytes (netOf s .conditions) m) out) (d .same-end);
     }
 
 -- ---- a firing as a replay
@@ -97,7 +96,7 @@ stopped-fine (some x) v c e = never-both (sym e)
 
 -- A fine firing is a fine replay of that one step from the lent marking, with the same end.
 pub fire-replayed : (s m : List ℕ) (e c : ℕ) → fireOf s m e ≡ Fine c → OneStep s m e c
-unfolding firingOf firedOf replayFromOf endFromOf endOver playedOf begunAt end replay
+unfolding firingOf firedOf replayFromOf endFromOf playedOf begunAt end replay
 fire-replayed s m e c h =
     let k = on-fine s m (λ n. refusedOr (stoppedAt 0 (stopping (netOf s) (marking m) e)) (Fine (netOf s .conditions))) c h in
     let (o, v) = stopped-fine (stopping (netOf s) (marking m) e) (netOf s .conditions) c (k .goes) in
@@ -105,13 +104,14 @@ fire-replayed s m e c h =
     let short : tooLong (e ∷ []) ≡ none = length-short (e ∷ []) (omega arith) in
     let free : stuck (replay (netOf s) 0 (begunAt (netOf s) (marking m)) (e ∷ [])) ≡ none
     = ap stuck (replay-go (netOf s) 0 (begunAt (netOf s) (marking m)) e [] o) in
-    let fits : need (leb (netOf s .conditions) (length m)) 16 (netOf s .conditions) (Fine (netOf s .conditions)) ≡ Fine (netOf s .conditions)
-    = need-passes 16 (netOf s .conditions) (le-leb (netOf s .conditions) (length m) (omega arith)) in
+    let fits = fitting-room (netOf s .conditions) (length m) (omega arith) in
     let played : playedOf (netOf s) (begunAt (netOf s) (marking m)) (e ∷ []) (length m) ≡ refusedOr (stoppedAt 0 (stopping (netOf s) (marking m) e)) (Fine (netOf s .conditions))
     = rw (short, free, o) fits in
+    let all : List ℕ = bytes (netOf s .conditions) (fire (netOf s) (marking m) e) in
+    let size = length-bytes (netOf s .conditions) (fire (netOf s) (marking m) e) in
     let answer : replayFromOf s m (e ∷ []) (length m) ≡ Fine c
     = ap (λ (x : Judged). onMarking s m (λ n. x)) played ∙ h in
     record {
       answer = answer;
-      same-end = rw (answer, h) (ap (λ (x : List ℕ). bytes (netOf s .conditions) (fire (netOf s) (marking m) e) ++ x) (drop-of-length-le m {i = netOf s .conditions} (omega arith)) ∙ append-nil (bytes (netOf s .conditions) (fire (netOf s) (marking m) e)));
+      same-end = rw (answer, h) (ap (λ (x : List ℕ). all ++ x) (drop-of-length-le m {i = length all} (omega (arith, size))) ∙ append-nil all);
     }

@@ -87,7 +87,7 @@ written-refused numbers r answer new old out e t f = record { number = rw e t; k
     kept g = rw g
 
 -- the same where it is told by the answer itself
-late-refused : (numbers : List ℕ) (r answer : Judged) (new old out : List ℕ) → r ≡ answer → T (listed numbers answer) → out ≡ written r new old → Refusing numbers r old out
+pub late-refused : (numbers : List ℕ) (r answer : Judged) (new old out : List ℕ) → r ≡ answer → T (listed numbers answer) → out ≡ written r new old → Refusing numbers r old out
 late-refused numbers r answer new old out e t f = record { number = rw e t; kept = λ x g. f ∙ kept g }
   where
     kept : {x : Refusal} → r ≡ Refused x → written r new old ≡ old
@@ -127,12 +127,12 @@ fire-refused κs a r x h =
 pub replay-refused : (κs : _) (a : _) (r : _) (x : _) → replay.Learnt κs a r x → Refusing ofReplay r (now (a .1 .1 .0)) (now (x .1 .1 .0))
 unfolding endOf
 replay-refused κs a r x h =
-    leaves-refused ofReplay r (replayOf (now (a .0)) (now (a .1 .0)) (length (now (a .1 .1 .0)))) _ (now (a .1 .1 .0)) (now (x .1 .1 .0)) (h .0) (replay-listed (now (a .0)) (now (a .1 .0)) (length (now (a .1 .1 .0)))) (h .1)
+    written-refused ofReplay r (replayOf (now (a .0)) (now (a .1 .0)) (length (now (a .1 .1 .0)))) _ (now (a .1 .1 .0)) (now (x .1 .1 .0)) (h .0) (replay-listed (now (a .0)) (now (a .1 .0)) (length (now (a .1 .1 .0)))) (h .1)
 
 pub replay-from-refused : (κs : _) (a : _) (r : _) (x : _) → replay-from.Learnt κs a r x → Refusing ofReplayFrom r (now (a .1 .1 .1 .0)) (now (x .1 .1 .1 .0))
 unfolding endFromOf
 replay-from-refused κs a r x h =
-    leaves-refused ofReplayFrom r (replayFromOf (now (a .0)) (now (a .1 .0)) (now (a .1 .1 .0)) (length (now (a .1 .1 .1 .0)))) _ (now (a .1 .1 .1 .0)) (now (x .1 .1 .1 .0)) (h .0) (replay-from-listed (now (a .0)) (now (a .1 .0)) (now (a .1 .1 .0)) (length (now (a .1 .1 .1 .0)))) (h .1)
+    written-refused ofReplayFrom r (replayFromOf (now (a .0)) (now (a .1 .0)) (now (a .1 .1 .0)) (length (now (a .1 .1 .1 .0)))) _ (now (a .1 .1 .1 .0)) (now (x .1 .1 .1 .0)) (h .0) (replay-from-listed (now (a .0)) (now (a .1 .0)) (now (a .1 .1 .0)) (length (now (a .1 .1 .1 .0)))) (h .1)
 
 pub exchange-refused : (κs : _) (a : _) (r : _) (x : _) → exchange.Learnt κs a r x → Refusing ofExchange r (now (a .1 .0)) (now (x .1 .0))
 unfolding exchangedOf

@@ -1,18 +1,18 @@
 -- Demand 1 for the public functions that the calls are made of: each is worked, or refused with a number of its list. `write_end` then
 -- leaves its lent output as it was, and a step that is stopped the lent marking; what the others are lent is read by nobody after a refusal.
-use mathlib.Core.Path.{_≡_, sym, ap, _∙_}
+use mathlib.Core.Path.{_≡_, sym, _∙_}
 use mathlib.Core.Option.{Option, none, some}
 use mathlib.Core.List.{List, [], _∷_}
 use Prim.Native.Nat.{ℕ}
 use native.Mathlib.Omega.{arith}
 use lib.Dec.{T}
+use lib.ListN.{length}
 use denote.Ref.{now}
 use Rattle.model.specs.Net.{Stop, stopping}
 use Rattle.model.specs.Runs.{replay, opening}
 use Rattle.model.specs.Unfolding.{basic}
 use Rattle.model.specs.Lent.{marking}
 use Rattle.model.specs.Across.{stuck, tooLong, unfoldingRefused}
-use Rattle.refusal.specs.declared.Judged.{Judged}
 use Rattle.table.specs.Decoded.{netOf}
 use Rattle.step.specs.declared.Cause.{Cause}
 use Rattle.step.specs.declared.Cause.the-variants.{Unknown, Lacks, Meets}
@@ -23,7 +23,8 @@ use Rattle.game.specs.Calls.{leaves, onMarking}
 use Rattle.played.specs.Begun.{begunAt}
 use Rattle.across.specs.Prepared.{preparedOf}
 use Rattle.promises.specs.Refused.{ofTable, ofLent, ofStep, ofSteps, ofUnfolding, listed, Refusing}
-use Rattle.promises.proofs.Refused.{listed-need, listed-or, conditions-listed, event-listed, marking-listed, judged-listed, lent-listed, stuck-listed, long-listed, unfolding-listed, unfolding-of-listed}
+use Rattle.promises.proofs.Refused.{listed-need, listed-or, conditions-listed, event-listed, marking-listed, judged-listed, lent-listed, stuck-listed, long-listed, unfolding-listed, unfolding-of-listed, listed-fitting}
+use Rattle.promises.proofs.Kept.{late-refused}
 use Rattle.rules.proofs.conditions_record.Reads as conditions-record
 use Rattle.rules.proofs.event_record.Reads as event-record
 use Rattle.rules.proofs.marking_record.Reads as marking-record
@@ -81,10 +82,8 @@ play-refused κs a r x h =
     rw (h .told) (listed-or ofSteps (tooLong run) _ (long-listed ofSteps run tt) (listed-or ofSteps (stuck played) _ (stuck-listed ofSteps played tt tt tt) tt))
 
 pub write-end-refused : (κs : _) (a : _) (r : _) (x : _) → write-end.Learnt κs a r x → Refusing (16 ∷ []) r (now (a .1 .1 .0)) (now (x .1 .1 .0))
-write-end-refused κs a r x h = late r _ _ (now (a .1 .1 .0)) (now (x .1 .1 .0)) (h .0) (listed-need (16 ∷ []) _ 16 _ _ tt tt) (h .1)
-  where
-    late : (r answer : Judged) (new old out : List ℕ) → r ≡ answer → T (listed (16 ∷ []) answer) → out ≡ leaves r new old → Refusing (16 ∷ []) r old out
-    late r answer new old out e t f = record { number = rw e t; kept = λ y g. f ∙ ap (λ (z : Judged). leaves z new old) g }
+write-end-refused κs a r x h =
+    late-refused (16 ∷ []) r _ _ (now (a .1 .1 .0)) (now (x .1 .1 .0)) (h .0) (listed-fitting (16 ∷ []) (a .1 .0) (length (now (a .1 .1 .0))) tt) (h .1)
 
 -- ---- the unfolding
 

@@ -227,7 +227,7 @@ dovetrellis-fire-refused κs a r x h =
 pub dovetrellis-replay-refused : (κs : _) (a : _) (r : _) (x : _) → dovetrellis-replay.Learnt κs a r x → Telling ofReplay r (now (x .1 .1 .0) ≡ now (a .1 .1 .0))
 unfolding endOf
 dovetrellis-replay-refused κs a r x h =
-    told-refused ofReplay (replayOf (now (a .0)) (now (a .1 .0)) (length (now (a .1 .1 .0)))) r (h .0) (replay-listed (now (a .0)) (now (a .1 .0)) (length (now (a .1 .1 .0)))) (λ y g. leaves-kept _ _ (now (a .1 .1 .0)) (now (x .1 .1 .0)) (h .1) g)
+    told-refused ofReplay (replayOf (now (a .0)) (now (a .1 .0)) (length (now (a .1 .1 .0)))) r (h .0) (replay-listed (now (a .0)) (now (a .1 .0)) (length (now (a .1 .1 .0)))) (λ y g. written-kept _ _ (now (a .1 .1 .0)) (now (x .1 .1 .0)) (h .1) g)
 
 pub dovetrellis-exchange-refused : (κs : _) (a : _) (r : _) (x : _) → dovetrellis-exchange.Learnt κs a r x → Telling ofExchange r (now (x .1 .0) ≡ now (a .1 .0))
 unfolding exchangedOf

@@ -2,19 +2,19 @@
 -- the result and in the lent output, which stands here as the memory at exit.
 use mathlib.Core.Path.{_≡_, refl, sym, ap, ap₂, _∙_}
 use mathlib.Core.Bool.{Bool}
-use mathlib.Core.List.{List, [], _∷_, _++_}
+use mathlib.Core.List.{List, [], _∷_}
 use Prim.Native.Nat.{ℕ, suc, _≤_, _<_}
 use native.Mathlib.Omega.{arith}
 use native.Mathlib.Decide.{decLe}
-use lib.ListN.{length, getD, take, drop}
+use lib.ListN.{length, getD, take}
 use denote.Ref.{now, ptr}
 use Rattle.lists.specs.Lists.{sum}
 use Rattle.model.specs.Net.{Net}
 use Rattle.model.specs.Numbering.{size, eventCount}
 use Rattle.refusal.specs.declared.Judged.{Judged}
+use Rattle.refusal.specs.Answer.{written}
 use Rattle.table.specs.Walk.{offsetOf}
 use Rattle.table.specs.Decoded.{netOf}
-use Rattle.game.specs.Calls.{leaves}
 use Rattle.tally.specs.Having.{Tally}
 use Rattle.layout.proofs.Counts.{sum-part}
 use Rattle.unfolding.specs.declared.Found.{Found}
@@ -188,7 +188,7 @@ copy-front-one κs a r q x y h g = h ∙ sym g
 pub write-end-one : (κs : _) (a : _) (r q : _) (x y : _) → write-end.Learnt κs a r x → write-end.Learnt κs a q y → (r ≡ q) × (now (x .1 .1 .0) ≡ now (y .1 .1 .0))
 write-end-one κs a r q x y h g =
     let e : r ≡ q = h .0 ∙ sym (g .0) in
-    (e, h .1 ∙ ap (λ (z : Judged). leaves z (take (a .1 .0) (now (a .0)) ++ drop (a .1 .0) (now (a .1 .1 .0))) (now (a .1 .1 .0))) e ∙ sym (g .1))
+    (e, h .1 ∙ ap (λ (z : Judged). written z (take (a .1 .0) (now (a .0))) (now (a .1 .1 .0))) e ∙ sym (g .1))
 
 pub apart-at-one : (κs : _) (a : _) (r q : _) (x y : _) → apart-at.Learnt κs a r x → apart-at.Learnt κs a q y → r ≡ q
 apart-at-one κs a r q x y h g = h ∙ sym g

@@ -199,7 +199,7 @@ unfolding playedOf
 played-listed n s r room =
     listed-or ofReplay (tooLong r) _ (long-listed ofReplay r tt)
     (listed-or ofReplay (stuck (replay n 0 s r)) _ (stuck-listed ofReplay (replay n 0 s r) tt tt tt)
-    (listed-need ofReplay (leb (n .conditions) room) 16 (n .conditions) _ tt tt))
+    (listed-fitting ofReplay (n .conditions) room tt))
 
 pub replay-listed : (s r : List ℕ) (room : ℕ) → T (listed ofReplay (replayOf s r room))
 unfolding replayOf

@@ -64,3 +64,7 @@ fitting-fine needed room c e =
 -- What was written stands at the front.
 pub written-front : (answer : Judged) (c : ℕ) (w out : List ℕ) → answer ≡ Fine c → take (length w) (written answer w out) ≡ w
 written-front answer c w out e = rw e (take-append-seam w (drop (length w) out))
+
+-- A refusal writes nothing.
+pub written-refused : (answer : Judged) (refusal : Refusal) (w out : List ℕ) → answer ≡ Refused refusal → out ≡ written answer w out
+written-refused answer refusal w out e = rw e

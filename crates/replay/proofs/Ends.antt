@@ -2,9 +2,8 @@
 use Prim.Native.Nat.{ℕ, _≤_}
 use native.Mathlib.Omega.{arith}
 use mathlib.Core.Path.{_≡_, sym, ap, _∙_}
-use mathlib.Core.List.{List, _++_}
-use lib.Dec.{leb}
-use lib.ListN.{length, take, drop}
+use mathlib.Core.List.{List}
+use lib.ListN.{length, take}
 use lib.Seq.{getD-take, length-take-le}
 use Rattle.model.specs.Net.{Net, Marking, begin}
 use Rattle.model.specs.Runs.{end, opening, replay}
@@ -12,17 +11,17 @@ use Rattle.model.specs.Across.{stuck, tooLong}
 use Rattle.refusal.specs.declared.Refusal as table
 use Rattle.refusal.specs.declared.Judged.{Judged}
 use Rattle.refusal.specs.declared.Judged.the-variants.{Fine, Refused}
-use Rattle.refusal.specs.Answer.{need}
+use Rattle.refusal.specs.Answer.{fitting, written}
+use Rattle.refusal.proofs.Chain.{written-refused}
 use Rattle.table.specs.Walk.{judgeOf}
 use Rattle.table.specs.Decoded.{netOf}
 use Rattle.model.specs.Lent.{bit, bytes, marking}
 use Rattle.step.specs.Lent.{Lent}
-use Rattle.game.specs.Calls.{onMarking, leaves}
+use Rattle.game.specs.Calls.{onMarking}
 use Rattle.played.specs.Begun.{begunAt}
-use Rattle.replay.specs.Calls.{playedOf, endOver, replayOf, replayFromOf}
+use Rattle.replay.specs.Calls.{playedOf, replayOf, replayFromOf}
 use Rattle.played.specs.Played.{Plays}
 use Rattle.table.proofs.Links.{links-refused, links-fine}
-use Rattle.played.proofs.Passing.{left-refused}
 use Rattle.model.proofs.Lent.{bytes-are}
 use Rattle.step.proofs.Bytes.{lent-at}
 use Rattle.game.proofs.Marked.{on-then}
@@ -40,44 +39,38 @@ module _ (n : Net) (m : Marking) (r : List ℕ) (answer : Judged) (l : List ℕ)
   unfolding playedOf
   tail-refused room x e =
       p .told
-      ∙ links-refused (tooLong r) (stuck (replay n 0 (begunAt n m) r)) (n .conditions) (need (leb (n .conditions) room) 16 (n .conditions) (Fine (n .conditions))) x (sym (p .told) ∙ e)
+      ∙ links-refused (tooLong r) (stuck (replay n 0 (begunAt n m) r)) (n .conditions) (fitting (n .conditions) room) x (sym (p .told) ∙ e)
 
   module _ (count : ℕ) (e : answer ≡ Fine count) where
-    abbrev rest : ℕ → Judged
-    rest room = need (leb (n .conditions) room) 16 (n .conditions) (Fine (n .conditions))
-
     count-is : count ≡ n .conditions
-    count-is = links-fine (tooLong r) (stuck (replay n 0 (begunAt n m) r)) (n .conditions) count (rest 0) (sym (p .told) ∙ e) .0
+    count-is = links-fine (tooLong r) (stuck (replay n 0 (begunAt n m) r)) (n .conditions) count (Fine 0) (sym (p .told) ∙ e) .0
 
     pub tail-room : count ≤ length l
     tail-room = omega (arith, count-is, p .room)
 
-    tail-fine : (room : ℕ) → need (leb count room) 16 count (Fine count) ≡ playedOf n (begunAt n m) r room
+    tail-fine : (room : ℕ) → fitting count room ≡ playedOf n (begunAt n m) r room
     unfolding playedOf
     tail-fine room =
-        ap (λ (c : ℕ). need (leb c room) 16 c (Fine c)) count-is
-        ∙ links-fine (tooLong r) (stuck (replay n 0 (begunAt n m) r)) (n .conditions) count (rest room) (sym (p .told) ∙ e) .1
+        ap (λ (c : ℕ). fitting c room) count-is
+        ∙ links-fine (tooLong r) (stuck (replay n 0 (begunAt n m) r)) (n .conditions) count (fitting (n .conditions) room) (sym (p .told) ∙ e) .1
 
-    tail-left : (out : List ℕ) → take count l ++ drop count out ≡ endOver n m r out
-    unfolding endOver
-    tail-left out =
-        ap (λ (c : ℕ). take c l ++ drop c out) count-is
-        ∙ ap (λ (x : List ℕ). x ++ drop (n .conditions) out) (ending l (n .conditions) (end n m r) (p .lents) (p .room) (p .reached count e))
+    tail-left : take count l ≡ bytes (n .conditions) (end n m r)
+    tail-left = ap (λ (c : ℕ). take c l) count-is ∙ ending l (n .conditions) (end n m r) (p .lents) (p .room) (p .reached count e)
 
 -- ---- a call that goes on to such a run, and its lent output
 
 module _ (n : Net) (m : Marking) (r : List ℕ) (answer : Judged) (l : List ℕ) (p : Plays n m r answer l) (out : List ℕ) (call : Judged)
     (is : call ≡ playedOf n (begunAt n m) r (length out)) where
-  pub call-refused : (x : table.Refusal) → answer ≡ Refused x → (answer ≡ call) × (out ≡ leaves call (endOver n m r out) out)
+  pub call-refused : (x : table.Refusal) → answer ≡ Refused x → (answer ≡ call) × (out ≡ written call (bytes (n .conditions) (end n m r)) out)
   call-refused x e =
       let same = tail-refused n m r answer l p (length out) x e ∙ sym is in
-      (same, left-refused call x (endOver n m r out) out (sym same ∙ e))
+      (same, written-refused call x (bytes (n .conditions) (end n m r)) out (sym same ∙ e))
 
-  pub call-fine : (count : ℕ) → answer ≡ Fine count → (final : Judged) (after : List ℕ) → final ≡ need (leb count (length out)) 16 count (Fine count)
-      → after ≡ leaves final (take count l ++ drop count out) out → (final ≡ call) × (after ≡ leaves call (endOver n m r out) out)
+  pub call-fine : (count : ℕ) → answer ≡ Fine count → (final : Judged) (after : List ℕ) → final ≡ fitting count (length out)
+      → after ≡ written final (take count l) out → (final ≡ call) × (after ≡ written call (bytes (n .conditions) (end n m r)) out)
   call-fine count e final after f g =
       let same = f ∙ tail-fine n m r answer l p count e (length out) ∙ sym is in
-      (same, g ∙ ap (λ (x : Judged). leaves x (take count l ++ drop count out) out) same ∙ ap (λ (x : List ℕ). leaves call x out) (tail-left n m r answer l p count e out))
+      (same, g ∙ ap (λ (x : Judged). written x (take count l) out) same ∙ ap (λ (x : List ℕ). written call x out) (tail-left n m r answer l p count e))
 
 -- ---- the calls, once the table and the lent marking are judged
 

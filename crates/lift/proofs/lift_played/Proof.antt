@@ -2,9 +2,10 @@
 use native.Mathlib.Omega.{arith}
 use mathlib.Core.Path.{_∙_, sym, refl, ap}
 use lib.ListN.{length}
+use Rattle.refusal.proofs.Chain.{written-refused}
 use Rattle.table.specs.Decoded.{netOf}
 use Rattle.firsts.specs.Firsts.{repeatOf}
-use Rattle.lift.proofs.Answers.{written-refused, lift-again, lift-short, lift-fits, lift-written, marking, writing}
+use Rattle.lift.proofs.Answers.{lift-again, lift-short, lift-fits, lift-written, marking, writing}
 use borrow.Author.Needs.{needs}
 use Rattle.lift.proofs.lift_played.Statement.{statement}
 use Rattle.lift.proofs.lift_played.Tie as tie

@@ -1,18 +1,21 @@
 -- `played::write_end` meets its contract.
 use mathlib.Core.Path.{_∙_, sym}
-use borrow.Author.Tests.{lt-leb, le-leb}
-use Rattle.refusal.proofs.Chain.{need-passes, need-refuses}
+use Rattle.refusal.proofs.Chain.{fitting-room, fitting-short}
 use borrow.Author.Needs.{needs}
 use Rattle.played.proofs.write_end.Statement.{statement}
 use Rattle.played.proofs.write_end.Tie as tie
+use Rattle.played.proofs.Copying.{front-written}
 
 returns : tie.Need-returns
 returns c =
-    (c .refused .ensures ∙ sym (need-refuses 16 _ _ (lt-leb _ _ (c .before .if1 .taken))), rw (c .refused .ensures))
+    (c .refused .ensures ∙ sym (fitting-short _ _ (c .before .if1 .taken)), rw (c .refused .ensures))
 
 returns-2 : tie.Need-returns-2
 returns-2 c =
-    (sym (need-passes 16 _ (le-leb _ _ (c .before .before .before .before .if1 .left))), c .before .before .copy-front .ensures)
+    let before = c .before .before .before .before .before .before .before in (
+      sym (fitting-room _ _ (c .before .before .before .before .if1 .left)),
+      front-written (before .args .count) (before .args .state .now) (before .args .end .now) _ (before .pre) (c .before .before .copy-front .ensures),
+    )
 
 pub write-end-spec : {M : Type 1} → statement M
 write-end-spec =

@@ -1,11 +1,11 @@
 -- `replay::replay_from` meets its contract.
 use native.Mathlib.Omega.{arith}
 use mathlib.Core.Path.{_∙_, sym}
+use Rattle.refusal.proofs.Chain.{written-refused}
 use Rattle.table.proofs.Walk.{accepted}
 use Rattle.replay.specs.Calls.{endFromOf}
 use Rattle.replay.proofs.Starting.{lent-judged, lent-few, lent-lent, lent-room, lent-plays}
 use Rattle.replay.proofs.Ends.{call-refused, call-fine, tail-room, replay-from-judged, replay-from-refused}
-use Rattle.played.proofs.Passing.{left-refused}
 use borrow.Author.Needs.{needs}
 use Rattle.replay.proofs.replay_from.Statement.{statement}
 use Rattle.replay.proofs.replay_from.Tie as tie
@@ -14,7 +14,7 @@ returns : tie.Need-returns
 unfolding endFromOf
 returns c =
     let same = c .enum-told .given .1 ∙ replay-from-refused _ _ _ _ _ (sym (c .before .before .judge-lent .ensures) ∙ c .enum-told .given .1) in
-    (same, left-refused _ _ _ _ (sym same ∙ c .enum-told .given .1))
+    (same, written-refused _ _ _ _ (sym same ∙ c .enum-told .given .1))
 
 fill-requires : tie.Need-fill-requires
 fill-requires c κs =
