@@ -16,7 +16,8 @@ ghost use Rattle.asking.specs.Calls.{preconditionsOf, preconditionsInto, postco
 ghost use Rattle.game.specs.Calls.{concessionOf, fireOf, firedOf};
 ghost use Rattle.replay.specs.Calls.{replayOf, endOf};
 ghost use Rattle.exchange.specs.Calls.{exchangeOf, exchangedOf};
-ghost use Rattle.runs.specs.Runs.{runKind, liftedKind, readAnswer, runInto, writeAnswer, recordInto};
+ghost use Rattle.runs.specs.Runs.{runKind, liftedKind, readAnswer, runInto};
+ghost use Rattle.writing.specs.Writing.{writeAnswer, recordInto};
 ghost use Rattle.layout.specs.Unfolds.{unfoldingOf};
 ghost use Rattle.events.specs.Answers.{originOf};
 ghost use Rattle.event_numbers.specs.Answers.{numberOf};
@@ -369,7 +370,7 @@ pub extern "C" fn dovetrellis_write_run(run: &[u16], out: &mut [u8], count: &mut
     ensures after { λ _. ⌜ now (out .exit) ≡ recordInto runKind (now (run .entry)) (now (out .entry)) ⌝ }
     ensures many { λ _. ⌜ now (count .exit) ≡ valueOr (writeAnswer (now (run .entry)) (length (now (out .entry)))) (now (count .entry)) ⌝ }
 {
-    let judged = runs::write_run(run, out);
+    let judged = writing::write_run(run, out);
     outward::put_value(judged, count);
     outward::told(judged)
 }
@@ -385,7 +386,7 @@ pub extern "C" fn dovetrellis_write_lifted(
     ensures after { λ _. ⌜ now (out .exit) ≡ recordInto liftedKind (now (lifted .entry)) (now (out .entry)) ⌝ }
     ensures many { λ _. ⌜ now (count .exit) ≡ valueOr (writeAnswer (now (lifted .entry)) (length (now (out .entry)))) (now (count .entry)) ⌝ }
 {
-    let judged = runs::write_lifted(lifted, out);
+    let judged = writing::write_lifted(lifted, out);
     outward::put_value(judged, count);
     outward::told(judged)
 }

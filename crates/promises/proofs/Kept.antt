@@ -18,7 +18,8 @@ use Rattle.parts.proofs.Told.{persistence-number}
 use Rattle.game.specs.Calls.{leaves, fireOf, firedOf}
 use Rattle.replay.specs.Calls.{replayOf, endOf, replayFromOf, endFromOf}
 use Rattle.exchange.specs.Calls.{exchangeOf, exchangedOf}
-use Rattle.runs.specs.Runs.{runKind, liftedKind, readAnswer, writeAnswer, runInto, recordInto}
+use Rattle.runs.specs.Runs.{runKind, liftedKind, readAnswer, runInto}
+use Rattle.writing.specs.Writing.{writeAnswer, recordInto}
 use Rattle.event_numbers.specs.Answers as unfolded
 use Rattle.events.specs.Answers.{originJudged}
 use Rattle.condition_numbers.specs.Answers.{numbered}
@@ -47,8 +48,8 @@ use Rattle.replay.proofs.replay_from.Reads as replay-from
 use Rattle.exchange.proofs.exchange.Reads as exchange
 use Rattle.runs.proofs.read_run.Reads as read-run
 use Rattle.runs.proofs.read_lifted.Reads as read-lifted
-use Rattle.runs.proofs.write_run.Reads as write-run
-use Rattle.runs.proofs.write_lifted.Reads as write-lifted
+use Rattle.writing.proofs.write_run.Reads as write-run
+use Rattle.writing.proofs.write_lifted.Reads as write-lifted
 use Rattle.unfolding.proofs.condition_count.Reads as unfolded-condition-count
 use Rattle.unfolding.proofs.event_count.Reads as unfolded-event-count
 use Rattle.parts.proofs.persistent.Reads as persistent

@@ -25,7 +25,8 @@ use Rattle.asking.specs.Calls.{preconditionsOf, preconditionsInto, postconditio
 use Rattle.game.specs.Calls.{leaves, concessionOf, fireOf, firedOf}
 use Rattle.replay.specs.Calls.{replayOf, endOf}
 use Rattle.exchange.specs.Calls.{exchangeOf, exchangedOf}
-use Rattle.runs.specs.Runs.{runKind, liftedKind, readAnswer, runInto, writeAnswer, recordInto}
+use Rattle.runs.specs.Runs.{runKind, liftedKind, readAnswer, runInto}
+use Rattle.writing.specs.Writing.{writeAnswer, recordInto}
 use Rattle.layout.specs.Unfolds.{unfoldingOf}
 use Rattle.events.specs.declared.Colour.{Colour}
 use Rattle.event_numbers.specs.Answers as unfolded

@@ -33,8 +33,8 @@ use Rattle.replay.proofs.replay_from.Reads as replay-from
 use Rattle.exchange.proofs.exchange.Reads as exchange
 use Rattle.runs.proofs.read_run.Reads as read-run
 use Rattle.runs.proofs.read_lifted.Reads as read-lifted
-use Rattle.runs.proofs.write_run.Reads as write-run
-use Rattle.runs.proofs.write_lifted.Reads as write-lifted
+use Rattle.writing.proofs.write_run.Reads as write-run
+use Rattle.writing.proofs.write_lifted.Reads as write-lifted
 use Rattle.unfolding.proofs.condition_count.Reads as unfolded-condition-count
 use Rattle.unfolding.proofs.event_count.Reads as unfolded-event-count
 use Rattle.events.proofs.event_origin.Reads as event-origin

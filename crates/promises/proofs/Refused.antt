@@ -33,7 +33,8 @@ use Rattle.game.specs.Calls.{onMarking, stoppedAt, firingOf}
 use Rattle.replay.specs.Calls.{playedOf, replayOf, replayFromOf}
 use Rattle.played.specs.Begun.{begunAt}
 use Rattle.exchange.specs.Calls.{swapping, exchangeOf}
-use Rattle.runs.specs.Runs.{runKind, stepsIn, readAnswer, writeAnswer}
+use Rattle.runs.specs.Runs.{runKind, stepsIn, readAnswer}
+use Rattle.writing.specs.Writing.{writeAnswer}
 use Rattle.layout.specs.Unfolds.{unfoldingOf}
 use Rattle.across.specs.Calls.{fitted, ended}
 use Rattle.lift.specs.Calls.{liftOf}

@@ -1,13 +1,13 @@
--- What reading and writing a Run or a Lifted record answers, and what it leaves in the lent output.
-use Prim.Native.Nat.{ℕ, _+_, _*_, _/_, _%_}
-use mathlib.Core.List.{List, _∷_}
+-- What reading a Run or a Lifted record answers, and what it leaves in the lent run.
+use Prim.Native.Nat.{ℕ, _+_, _/_, _%_}
+use mathlib.Core.List.{List}
 use lib.Dec.{leb, eqb}
 use lib.ListN.{length}
 use Rattle.model.specs.Across.{mostSteps}
 use Rattle.refusal.specs.declared.Judged.{Judged}
 use Rattle.refusal.specs.declared.Judged.the-variants.{Fine}
 use Rattle.refusal.specs.Answer.{need, andThen, fitting, written}
-use Rattle.words.specs.Words.{wordAt, words, bytesOf}
+use Rattle.words.specs.Words.{wordAt, words}
 use Rattle.records.specs.Records.{part, headerOf, whenWhole}
 
 -- The kind of a Run record (01, Table records).
@@ -31,22 +31,10 @@ stepsIn kind bytes = whenWhole (headerOf bytes 0) 0 (λ found len.
 unfoldable pub readAnswer : ℕ → List ℕ → ℕ → Judged
 readAnswer kind bytes room = andThen (stepsIn kind bytes) (λ steps. fitting steps room)
 
--- What writing answers: the number of bytes, once the run is short enough and they fit (01, Runs across).
-unfoldable pub writeAnswer : List ℕ → ℕ → Judged
-writeAnswer run room = need (leb (length run) mostSteps) 3 0 (fitting (4 + 2 * length run) room)
-
 -- The run that a record holds: its payload as numbers of two bytes (01, Table records).
 abbrev pub runOf : List ℕ → List ℕ
 runOf bytes = words (part bytes 4 (wordAt bytes 0))
 
--- The record of the kind that holds a run: length, kind, steps (01, Table records).
-unfoldable pub recordOf : ℕ → List ℕ → List ℕ
-recordOf kind run = bytesOf (2 * length run ∷ kind ∷ run)
-
 -- The lent run after reading (01, Runs across).
 unfoldable pub runInto : ℕ → List ℕ → List ℕ → List ℕ
 runInto kind bytes run = written (readAnswer kind bytes (length run)) (runOf bytes) run
-
--- The lent bytes after writing (01, Runs across).
-unfoldable pub recordInto : ℕ → List ℕ → List ℕ → List ℕ
-recordInto kind run bytes = written (writeAnswer run (length bytes)) (recordOf kind run) bytes

@@ -6,9 +6,9 @@ use borrow.Author.Needs.{needs}
 use lib.ListN.{length, drop}
 use lib.Seq.{sets, length-sets}
 use Rattle.words.specs.Words.{bytesOf}
-use Rattle.runs.proofs.Outputs.{store-next-bytes, store-end-bytes}
-use Rattle.runs.proofs.put_steps.Statement.{statement}
-use Rattle.runs.proofs.put_steps.Tie as tie
+use Rattle.writing.proofs.Outputs.{store-next-bytes, store-end-bytes}
+use Rattle.writing.proofs.put_steps.Statement.{statement}
+use Rattle.writing.proofs.put_steps.Tie as tie
 
 abbrev Inv-loop : tie.InvT-loop
 Inv-loop run bytes₀ k₀ bytes k =

@@ -1,19 +1,15 @@
--- An answer that a loop stores in a lent output, from the first element on.
+-- Numbers that a loop stores in lent bytes, two bytes each, and a record stored piece by piece.
 use Prim.Native.Nat.{ℕ, suc, _+_, _*_, _≤_, _<_}
 use native.Mathlib.Numerals.{add-one}
 use native.Mathlib.Omega.{arith}
-use mathlib.Core.Path.{_≡_, refl, sym}
-use mathlib.Core.List.{List, [], _∷_, _++_}
-use lib.ListN.{length, getD, take, drop, drop-of-length-le}
-use lib.Seq.{drop-cons, take-at, sets}
+use mathlib.Core.Path.{_≡_, refl}
+use mathlib.Core.List.{List, [], _∷_}
+use lib.ListN.{length, getD, drop, drop-of-length-le}
+use lib.Seq.{drop-cons, sets}
 use Rattle.words.specs.Words.{bytesOf}
-use Rattle.runs.specs.Runs.{recordOf}
+use Rattle.writing.specs.Writing.{recordOf}
 
--- An answer that stands first can be taken from there.
-pub taken-again : (answer out : List ℕ) (n : ℕ) → n ≡ length answer → take n (answer ++ drop (length answer) out) ≡ answer
-taken-again answer out n e = take-at answer (drop (length answer) out) n (sym e)
-
--- Storing the bytes of the numbers that are left from number k on is to store its bytes and then those of what is left after it.
+-- Storing what is left from number k on is to store that number and then what is left after it.
 pub store-next-bytes :
     (out numbers : List ℕ) (at k : ℕ)
     → k < length numbers

@@ -8,8 +8,9 @@ use lib.Seq.{take-all}
 use Rattle.model.specs.Across.{mostSteps}
 use Rattle.words.specs.Words.{words, bytesOf}
 use Rattle.words.proofs.Laws.{length-words, length-bytesOf, words-bytesOf, bytesOf-words}
-use Rattle.runs.specs.Runs.{runOf, recordOf}
+use Rattle.runs.specs.Runs.{runOf}
 use Rattle.runs.proofs.Judging.{IsRecord}
+use Rattle.writing.specs.Writing.{recordOf}
 
 -- The record of a run is a record, and it holds that run.
 pub length-record : (kind : ℕ) (run : List ℕ) → length (recordOf kind run) ≡ 4 + 2 * length run

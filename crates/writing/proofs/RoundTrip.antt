@@ -4,12 +4,18 @@ use native.Mathlib.Omega.{arith}
 use mathlib.Core.Path.{_≡_, sym, _∙_}
 use mathlib.Core.List.{List, _++_}
 use lib.ListN.{length, getD, take, drop}
+use lib.Seq.{take-at}
 use Rattle.refusal.specs.declared.Judged.the-variants.{Fine}
-use Rattle.runs.specs.Runs.{readAnswer, writeAnswer, runOf, recordOf, runInto, recordInto}
-use Rattle.runs.proofs.Outputs.{taken-again}
+use Rattle.runs.specs.Runs.{readAnswer, runOf, runInto}
 use Rattle.runs.proofs.Judging.{record-is-fine, length-run}
-use Rattle.runs.proofs.RecordOfRun.{length-record, record-is, run-of-record, record-of-run}
-use Rattle.runs.proofs.Answers.{read-fits, write-fits, read-fine, write-fine}
+use Rattle.runs.proofs.Answers.{read-fits, read-fine}
+use Rattle.writing.specs.Writing.{writeAnswer, recordOf, recordInto}
+use Rattle.writing.proofs.RecordOfRun.{length-record, record-is, run-of-record, record-of-run}
+use Rattle.writing.proofs.Answers.{write-fits, write-fine}
+
+-- An answer that stands first can be taken from there.
+taken-again : (answer out : List ℕ) (n : ℕ) → n ≡ length answer → take n (answer ++ drop (length answer) out) ≡ answer
+taken-again answer out n e = take-at answer (drop (length answer) out) n (sym e)
 
 -- A run that was written as a record is read from it again, wherever it fits.
 pub reading-what-was-written :

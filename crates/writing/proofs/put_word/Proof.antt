@@ -4,8 +4,8 @@ use native.Mathlib.Omega.{arith}
 use borrow.Author.Needs.{needs}
 use lib.ListN.{length-set}
 use Rattle.words.specs.Words.{bytesOf}
-use Rattle.runs.proofs.put_word.Statement.{statement}
-use Rattle.runs.proofs.put_word.Tie as tie
+use Rattle.writing.proofs.put_word.Statement.{statement}
+use Rattle.writing.proofs.put_word.Tie as tie
 
 slice-write-bytes-2 : tie.Need-slice-write-bytes-2
 slice-write-bytes-2 c = simp length-set (omega arith)

@@ -3,12 +3,12 @@ use native.Mathlib.Omega.{arith}
 use mathlib.Core.Path.{sym, _∙_}
 use borrow.Author.Needs.{needs}
 use Rattle.lists.proofs.Stored.{stored-whole}
-use Rattle.runs.specs.Runs.{recordOf}
-use Rattle.runs.proofs.Outputs.{stored-record}
-use Rattle.runs.proofs.RecordOfRun.{length-record}
-use Rattle.runs.proofs.Answers.{write-long, write-short, write-fits}
-use Rattle.runs.proofs.write_record.Statement.{statement}
-use Rattle.runs.proofs.write_record.Tie as tie
+use Rattle.writing.specs.Writing.{recordOf}
+use Rattle.writing.proofs.Outputs.{stored-record}
+use Rattle.writing.proofs.RecordOfRun.{length-record}
+use Rattle.writing.proofs.Answers.{write-long, write-short, write-fits}
+use Rattle.writing.proofs.write_record.Statement.{statement}
+use Rattle.writing.proofs.write_record.Tie as tie
 
 returns : tie.Need-returns
 returns c =
