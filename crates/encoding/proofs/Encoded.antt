@@ -23,8 +23,10 @@ use Rattle.refusal.specs.declared.Judged.the-variants.{Fine}
 use Rattle.refusal.specs.Answer.{andThen}
 use Rattle.records.specs.declared.Header.{Header}
 use Rattle.records.specs.Records.{part, conditions, flags, preCount, postCount, prePart, postPart, markingPart}
-use Rattle.rules.specs.Rules.{conditionsOf, eventOf}
-use Rattle.rules.proofs.Made.{conditions-made, event-made, marking-made}
+use Rattle.rules.specs.Rules.{conditionsOf}
+use Rattle.event_rules.specs.EventRules.{eventOf}
+use Rattle.rules.proofs.Made.{conditions-made, marking-made}
+use Rattle.event_rules.proofs.Made.{event-made}
 use Rattle.table.specs.Walk.{kindIs, eventsFrom, judgeOf, offsetFrom}
 use Rattle.table.specs.Decoded.{netIf, netOf}
 use Rattle.table.specs.Tabled.{Tabled}

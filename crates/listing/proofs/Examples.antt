@@ -11,7 +11,8 @@ use Rattle.lists.specs.Lists.{fits}
 use Rattle.refusal.specs.Answer.{need, fitting}
 use Rattle.words.specs.Words.{words, bits, countIn}
 use Rattle.records.specs.Records.{headerOf}
-use Rattle.rules.specs.Rules.{conditionsOf, listsOf, eventOf, markingOf}
+use Rattle.rules.specs.Rules.{conditionsOf, markingOf}
+use Rattle.event_rules.specs.EventRules.{listsOf, eventOf}
 use Rattle.table.specs.Walk.{eventsFrom, judgeOf, offsetFrom}
 use Rattle.table.specs.Decoded.{netOf}
 use Rattle.runs.specs.Runs.{stepsIn, readAnswer}

@@ -15,7 +15,7 @@ use Rattle.refusal.specs.declared.Judged.the-variants.{Fine, Refused}
 use Rattle.refusal.specs.Answer.{need, andThen}
 use Rattle.refusal.proofs.Chain.{never-both, need-fine, then-fine}
 use Rattle.records.specs.Records.{conditions, prePart, postPart}
-use Rattle.rules.proofs.Fine.{EventFine}
+use Rattle.event_rules.proofs.Fine.{EventFine}
 use Rattle.table.specs.Walk.{judgeOf, offsetOf}
 use Rattle.table.specs.Decoded.{netIf, netOf, listOf}
 use Rattle.parts.specs.Asked.{askedOf, askedConditionOf}

@@ -26,7 +26,7 @@ use Rattle.promises.specs.Refused.{ofTable, ofLent, ofStep, ofSteps, ofU
 use Rattle.promises.proofs.Refused.{listed-need, listed-or, conditions-listed, event-listed, marking-listed, judged-listed, lent-listed, stuck-listed, long-listed, unfolding-listed, unfolding-of-listed, listed-fitting}
 use Rattle.promises.proofs.Kept.{late-refused}
 use Rattle.rules.proofs.conditions_record.Reads as conditions-record
-use Rattle.rules.proofs.event_record.Reads as event-record
+use Rattle.event_rules.proofs.event_record.Reads as event-record
 use Rattle.rules.proofs.marking_record.Reads as marking-record
 use Rattle.game.proofs.judge_lent.Reads as judge-lent
 use Rattle.step.proofs.answered.Reads as answered

@@ -31,7 +31,7 @@ use Rattle.words.proofs.count_in.Reads as count-in
 use Rattle.records.proofs.shown.Reads as shown
 use Rattle.records.proofs.header_at.Reads as header-at
 use Rattle.rules.proofs.conditions_record.Reads as conditions-record
-use Rattle.rules.proofs.event_record.Reads as event-record
+use Rattle.event_rules.proofs.event_record.Reads as event-record
 use Rattle.rules.proofs.marking_record.Reads as marking-record
 use Rattle.records.proofs.pre_at.Reads as pre-at
 use Rattle.records.proofs.post_at.Reads as post-at

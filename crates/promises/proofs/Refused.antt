@@ -24,7 +24,8 @@ use Rattle.words.specs.Words.{words, bits, countIn}
 use Rattle.records.specs.declared.Header.{Header}
 use Rattle.records.specs.declared.Header.the-variants.{Short, Whole}
 use Rattle.records.specs.Records.{part, headerOf, whenWhole, conditions, flags, preCount, postCount, prePart, postPart}
-use Rattle.rules.specs.Rules.{conditionsOf, listsOf, eventOf, markingOf}
+use Rattle.rules.specs.Rules.{conditionsOf, markingOf}
+use Rattle.event_rules.specs.EventRules.{listsOf, eventOf}
 use Rattle.table.specs.Walk.{kindIs, lastOf, eventsFrom, judgeOf, offsetOf}
 use Rattle.table.specs.Decoded.{netOf}
 use Rattle.table.specs.Links.{refusedOr}

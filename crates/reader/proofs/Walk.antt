@@ -10,8 +10,10 @@ use Rattle.refusal.specs.declared.Judged.{Judged}
 use Rattle.refusal.specs.declared.Judged.the-variants.{Fine, Refused}
 use Rattle.refusal.specs.Answer.{refusedAt, need, andThen}
 use Rattle.records.specs.Records.{headerOf}
-use Rattle.rules.specs.Rules.{conditionsOf, eventOf, markingOf}
-use Rattle.rules.proofs.Fine.{event-fine, conditions-fine, marking-fine}
+use Rattle.rules.specs.Rules.{conditionsOf, markingOf}
+use Rattle.event_rules.specs.EventRules.{eventOf}
+use Rattle.rules.proofs.Fine.{conditions-fine, marking-fine}
+use Rattle.event_rules.proofs.Fine.{event-fine}
 use Rattle.table.specs.Walk.{kindIs, eventsFrom, judgeOf, offsetFrom, offsetOf}
 use Rattle.table.proofs.Walk.{judge-starts, events-full, events-event, events-last, offset-none}
 use Rattle.reader.specs.Read.{recordOf, nextIf, nextOf, placeAfter, ComesTo}

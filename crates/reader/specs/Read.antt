@@ -9,7 +9,8 @@ use Rattle.refusal.specs.declared.Judged.{Judged}
 use Rattle.refusal.specs.declared.Judged.the-variants.{Fine, Refused}
 use Rattle.refusal.specs.Answer.{need}
 use Rattle.records.specs.Records.{headerOf}
-use Rattle.rules.specs.Rules.{conditionsOf, eventOf, markingOf}
+use Rattle.rules.specs.Rules.{conditionsOf, markingOf}
+use Rattle.event_rules.specs.EventRules.{eventOf}
 use Rattle.table.specs.Walk.{kindIs, offsetOf}
 
 -- The record at a place, judged as the kind that is allowed there: Conditions at 0, else an Event, 6 where 256 events stand before it,

@@ -19,7 +19,7 @@ pub fn record_at(table: &[u8], at: usize) -> Judged
     }
     if table::is_event(table, at) {
         if at < table::offset(table, 256) {
-            rules::event_record(table, at)
+            event_rules::event_record(table, at)
         } else {
             refusal::refused(6, at)
         }

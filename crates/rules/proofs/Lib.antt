@@ -1,3 +1,2 @@
-pub mod Few
 pub mod Fine
 pub mod Made

@@ -1,5 +1,5 @@
--- What each record of a table must be: its header, its length and its payload, with the number and place of each refusal.
-use Prim.Native.Nat.{ℕ, _+_, _*_, _%_}
+-- What the first and the last record of a table must be: header, length and payload, with the number and place of each refusal.
+use Prim.Native.Nat.{ℕ, _+_, _%_}
 use mathlib.Core.List.{List}
 use lib.ListN.{length}
 use lib.Dec.{leb, eqb}
@@ -7,8 +7,8 @@ use Rattle.lists.specs.Lists.{fits}
 use Rattle.refusal.specs.declared.Judged.{Judged}
 use Rattle.refusal.specs.declared.Judged.the-variants.{Fine}
 use Rattle.refusal.specs.Answer.{need}
-use Rattle.words.specs.Words.{words, bits, countIn}
-use Rattle.records.specs.Records.{part, headerOf, whenWhole, conditions, flags, preCount, postCount, prePart, postPart}
+use Rattle.words.specs.Words.{words, bits}
+use Rattle.records.specs.Records.{part, headerOf, whenWhole, conditions}
 
 -- The Conditions record, at offset 0: 1, 2, 3, 4; fine: the offset after it (01, Refusal numbers).
 unfoldable pub conditionsOf : List ℕ → Judged
@@ -18,23 +18,6 @@ conditionsOf s = whenWhole (headerOf s 0) 0 (λ kind len.
     (need (leb len 256) 3 0
     (need (bits (part s 4 len)) 4 0
     (Fine (4 + len))))))
-
--- The lists of an Event record: 5, 7, 8; fine: next (01, Refusal numbers).
-unfoldable pub listsOf : List ℕ → ℕ → ℕ → Judged
-listsOf s at next =
-    need (fits (conditions s) (words (prePart s at))) 5 at
-    (need (fits (conditions s) (words (postPart s at))) 5 at
-    (need (leb 1 (preCount s at + postCount s at)) 7 at
-    (need (leb (countIn (flags s) (words (prePart s at))) 16) 8 at
-    (Fine next))))
-
--- The Event record at an offset: 1, 2, 3, then its lists, its length in whole numbers; fine: the offset after it (01, Refusal numbers).
-unfoldable pub eventOf : List ℕ → ℕ → Judged
-eventOf s at = whenWhole (headerOf s at) at (λ kind len.
-    need (eqb kind 2) 2 at
-    (need (leb 4 len) 3 at
-    (need (eqb len (4 + 2 * (preCount s at + postCount s at))) 3 at
-    (listsOf s at (at + 4 + len)))))
 
 -- The Marking record at an offset, the last of the table: 1, 2, 3, 5, and 9 after it; fine: the offset after it (01, Refusal numbers).
 unfoldable pub markingOf : List ℕ → ℕ → Judged

@@ -14,7 +14,7 @@ use Rattle.model.specs.Unfolding.{reads}
 use Rattle.words.specs.Words.{words, countIn}
 use Rattle.refusal.specs.declared.Judged.the-variants.{Fine}
 use Rattle.records.specs.Records.{part, conditions, preCount, postCount, prePart, postPart, markingPart}
-use Rattle.rules.proofs.Fine.{EventFine}
+use Rattle.event_rules.proofs.Fine.{EventFine}
 use Rattle.table.specs.Walk.{judgeOf, offsetOf}
 use Rattle.table.specs.Decoded.{netIf, netOf}
 use Rattle.table.specs.Tabled.{Tabled}

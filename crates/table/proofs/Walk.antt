@@ -11,8 +11,10 @@ use Rattle.refusal.specs.declared.Judged.the-variants.{Fine}
 use Rattle.refusal.specs.Answer.{refusedAt, andThen}
 use Rattle.refusal.proofs.Chain.{never-both, then-fine}
 use Rattle.records.specs.Records.{headerOf, conditions}
-use Rattle.rules.specs.Rules.{conditionsOf, eventOf, markingOf}
-use Rattle.rules.proofs.Fine.{EventFine, event-fine, ConditionsFine, conditions-fine, MarkingFine, marking-fine}
+use Rattle.rules.specs.Rules.{conditionsOf, markingOf}
+use Rattle.event_rules.specs.EventRules.{eventOf}
+use Rattle.rules.proofs.Fine.{ConditionsFine, conditions-fine, MarkingFine, marking-fine}
+use Rattle.event_rules.proofs.Fine.{EventFine, event-fine}
 use Rattle.table.specs.Walk.{kindIs, lastOf, eventsFrom, judgeOf, offsetFrom, offsetOf}
 
 pub judge-starts : (s : List ℕ) → judgeOf s ≡ andThen (conditionsOf s) (eventsFrom 256 s)

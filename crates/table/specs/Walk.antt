@@ -10,7 +10,8 @@ use Rattle.refusal.specs.Answer.{refusedAt, andThen}
 use Rattle.records.specs.declared.Header.{Header}
 use Rattle.records.specs.declared.Header.the-variants.{Whole, Short}
 use Rattle.records.specs.Records.{headerOf}
-use Rattle.rules.specs.Rules.{conditionsOf, eventOf, markingOf}
+use Rattle.rules.specs.Rules.{conditionsOf, markingOf}
+use Rattle.event_rules.specs.EventRules.{eventOf}
 
 -- A header is whole and of a kind.
 abbrev pub kindIs : ℕ → Header → Bool

@@ -33,7 +33,7 @@ pub fn judge(table: &[u8]) -> Judged
         if left == 0 {
             return refusal::refused(6, at);
         }
-        let r = rules::event_record(table, at);
+        let r = event_rules::event_record(table, at);
         let Judged::Fine(next) = r else {
             return r;
         };

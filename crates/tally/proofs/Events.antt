@@ -11,7 +11,7 @@ use Rattle.model.specs.Net.{Net, Sound}
 use Rattle.words.specs.Words.{wordAt, words}
 use Rattle.refusal.specs.declared.Judged.{Judged}
 use Rattle.refusal.specs.declared.Judged.the-variants.{Fine, Refused}
-use Rattle.rules.proofs.Fine.{EventFine}
+use Rattle.event_rules.proofs.Fine.{EventFine}
 use Rattle.table.specs.Walk.{judgeOf, offsetOf}
 use Rattle.table.specs.Decoded.{netIf, netOf}
 use Rattle.table.specs.Tabled.{Tabled}

@@ -1,14 +1,14 @@
--- `rules::event_lists` meets its contract.
+-- `event_rules::event_lists` meets its contract.
 use Prim.Native.Nat.{_+_}
 use Rattle.records.specs.Records.{part}
 use mathlib.Core.Path.{_∙_}
 use borrow.Author.Tests.{le-leb, lt-leb, not-true, not-false}
 use Rattle.refusal.specs.Answer.{need}
-use Rattle.rules.specs.Rules.{listsOf}
-use Rattle.rules.proofs.Few.{few-in}
+use Rattle.event_rules.specs.EventRules.{listsOf}
+use Rattle.event_rules.proofs.Few.{few-in}
 use borrow.Author.Needs.{needs}
-use Rattle.rules.proofs.event_lists.Statement.{statement}
-use Rattle.rules.proofs.event_lists.Tie as tie
+use Rattle.event_rules.proofs.event_lists.Statement.{statement}
+use Rattle.event_rules.proofs.event_lists.Tie as tie
 
 returns : tie.Need-returns
 unfolding listsOf need

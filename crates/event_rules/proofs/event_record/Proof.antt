@@ -1,13 +1,13 @@
--- `rules::event_record` meets its contract.
+-- `event_rules::event_record` meets its contract.
 use mathlib.Core.Path.{_∙_, sym}
 use native.Mathlib.Omega.{arith}
 use borrow.Author.Tests.{eq-eqb, ne-eqb, le-leb, lt-leb}
 use Rattle.refusal.specs.Answer.{need}
-use Rattle.rules.specs.Rules.{eventOf}
+use Rattle.event_rules.specs.EventRules.{eventOf}
 use Rattle.records.proofs.Headers.{known}
 use borrow.Author.Needs.{needs}
-use Rattle.rules.proofs.event_record.Statement.{statement}
-use Rattle.rules.proofs.event_record.Tie as tie
+use Rattle.event_rules.proofs.event_record.Statement.{statement}
+use Rattle.event_rules.proofs.event_record.Tie as tie
 
 returns : tie.Need-returns
 unfolding eventOf need
