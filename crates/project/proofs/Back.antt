@@ -9,13 +9,17 @@ use mathlib.Core.List.{List, _++_, map}
 use lib.Dec.{eqb}
 use lib.ListN.{length, getD, set, drop, length-set, length-map, length-drop, length-append, List·getD-append}
 use lib.Seq.{getD-set-same, getD-set-other, ext-getD, getD-append-add, getD-drop}
-use borrow.Author.Tests.{eqb-true, eqb-false}
+use borrow.Author.Tests.{eqb-true, eqb-false, lt-leb, le-leb}
 use Rattle.lists.proofs.Places.{at-some, at-getD}
 use Rattle.lists.proofs.Positions.{at-map}
 use Rattle.model.specs.Net.{Net}
 use Rattle.model.specs.Unfolding.{origin}
 use Rattle.model.specs.Numbering.{size}
 use Rattle.model.specs.Across.{readBack}
+use Rattle.refusal.specs.declared.Judged.{Judged}
+use Rattle.refusal.specs.declared.Judged.the-variants.{Fine}
+use Rattle.refusal.specs.Answer.{refusedAt, valueOf, fitting}
+use Rattle.refusal.proofs.Chain.{need-passes, need-refuses}
 use Rattle.layout.specs.Laid.{Sums}
 use Rattle.across.specs.Prepared.{Around, Between}
 use Rattle.project.specs.Walked.{Reading, Read}
@@ -25,8 +29,8 @@ module _ (before : List ℕ) (events : ℕ) (w : List ℕ) where
   pub read-start : (out : List ℕ) → Read before events w 0 out out
   read-start out = record { long = refl; events-of = λ i h. absurd (omega arith); rest = λ i h. refl }
 
-  pub read-around : (out : List ℕ) → Reading before events w out → (k : ℕ) → k < length w → Around before 0 events (getD w k 0)
-  read-around out r k h = record {
+  pub read-around : Reading before events w → (k : ℕ) → k < length w → Around before 0 events (getD w k 0)
+  read-around r k h = record {
     within = omega (arith, r .few, r .size);
     apart = go events refl;
     from = omega (arith, r .first);
@@ -51,6 +55,23 @@ module _ (before : List ℕ) (events : ℕ) (w : List ℕ) where
 
   pub read-end : (k : ℕ) (old new : List ℕ) → Read before events w k old new → k ≡ length w → Read before events w (length w) old new
   read-end k old new r e = subst (λ (x : ℕ). Read before events w x old new) e r
+
+-- ---- where the output has room for them
+
+module _ (before : List ℕ) (events : ℕ) (w old : List ℕ) where
+  pub short-written : (a : Judged) → a ≡ refusedAt 16 (length w) → length old < length w → (a ≡ fitting (length w) (length old)) × Read before events w (valueOf a) old old
+  unfolding fitting
+  short-written a z h =
+      (z ∙ sym (need-refuses 16 (length w) (Fine (length w)) (lt-leb (length w) (length old) h)), subst (λ (x : Judged). Read before events w (valueOf x) old old) (sym z) (read-start before events w old))
+
+  pub fits-written : (new : List ℕ) → Read before events w (length w) old new → length w ≤ length old
+      → (Fine (length w) ≡ fitting (length w) (length old)) × Read before events w (length w) old new
+  unfolding fitting
+  fits-written new r h = (sym (need-passes 16 (length w) (le-leb (length w) (length old) h)), r)
+
+-- where none is read back the output is as it was
+pub read-none : (before : List ℕ) (events : ℕ) (w old new : List ℕ) → Read before events w 0 old new → new ≡ old
+read-none before events w old new r = ext-getD 0 new old (r .long) (λ i h. r .rest i (omega arith))
 
 -- what is read back is the model's
 pub read-is : (n : Net) (before : List ℕ) → Sums (size n) (n .events) before → (events : ℕ) → events ≡ n .events → (w old new : List ℕ) → length w ≤ length old

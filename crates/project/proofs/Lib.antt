@@ -1,4 +1,5 @@
 pub mod Located
+pub mod Apart
 pub mod Steps
 pub mod Walks
 pub mod Back

@@ -1,5 +1,5 @@
 -- One step of an unfolded run on the bytes: what it needs, what it is stopped by, and what it leaves.
-use Prim.Native.Nat.{ℕ, _+_, _-_, _≤_, _<_}
+use Prim.Native.Nat.{ℕ, _+_, _≤_, _<_}
 use native.Mathlib.Omega.{arith}
 use native.Mathlib.Numerals.{add-one}
 use mathlib.Core.Path.{_≡_, refl, sym, ap, _∙_, subst, fun-ext}
@@ -10,13 +10,9 @@ use lib.Dec.{T, eqb}
 use lib.ListN.{length, getD, set, take, length-set}
 use lib.Seq.{take-suc, getD-set-same, getD-set-other}
 use borrow.Author.Tests.{eqb-true, eqb-false}
-use Rattle.lists.specs.Lists.{mem, keep}
-use Rattle.words.specs.Words.{words}
-use Rattle.records.specs.Records.{prePart}
 use Rattle.model.specs.Net.{Net, Marking, begin, can, fire, Stop, unknown, stopNumber, stopping}
 use Rattle.model.specs.Runs.{State, opening, step, after, runs}
-use Rattle.model.specs.Unfolding.{markers, reads, origin, basic}
-use Rattle.model.specs.Numbering.{digits, ways, size, eventCount}
+use Rattle.model.specs.Unfolding.{reads, origin, basic, UnfoldedEvent}
 use Rattle.model.specs.Across.{readBack}
 use Rattle.model.specs.Lent.{bit, bytes, marking}
 use Rattle.model.proofs.Firing.{none-can, can-none, runs-snoc}
@@ -25,26 +21,22 @@ use Rattle.model.proofs.Project.{project-from, back-can}
 use Rattle.model.proofs.Lent.{length-bytes, bytes-marking}
 use Rattle.table.specs.Walk.{offsetOf}
 use Rattle.table.specs.Decoded.{netOf}
-use Rattle.table.proofs.Decoded.{events-are-all}
-use Rattle.table.proofs.Sound.{tabled}
-use Rattle.tally.proofs.Events.{within-limits, list-read, list-ascends, list-inside}
-use Rattle.layout.proofs.Counts.{sum-part}
-use Rattle.unfolding.specs.Numbers.{choicesOf}
+use Rattle.tally.proofs.Events.{within-limits}
 use Rattle.step.specs.declared.Cause.{Cause}
 use Rattle.step.specs.declared.Cause.the-variants.{Unknown}
 use Rattle.step.specs.declared.Step.{Step}
 use Rattle.step.specs.declared.Step.the-variants.{Goes, Stops}
 use Rattle.step.specs.Lent.{Lent}
-use Rattle.step.specs.Steps.{recordNet, causeOf, causeNumber, stepOf}
+use Rattle.step.specs.Steps.{recordNet, causeOf, causeNumber, stepOf, stepped}
 use Rattle.game.proofs.Found.{stopping-found, fire-found}
 use Rattle.played.proofs.Playing.{fired-marking}
 use Rattle.step.proofs.Bytes.{lent-bytes, lent-at}
-use Rattle.across.specs.Prepared.{Around, Between}
-use Rattle.decided.specs.Decided.{stoppedBy, numberOfStop}
-use Rattle.decided.specs.Kept.{markerAt, Choosing, Chosen, Deciding}
+use Rattle.decided.specs.Decided.{numberOfStop}
+use Rattle.decided.specs.Kept.{markerAt}
 use Rattle.decided.proofs.Decision.{decided}
-use Rattle.project.specs.Walked.{Equipped, stateAt, unfoldedAt, Walked, Stepped, Fires}
-use Rattle.project.proofs.Located.{past-last, among, around, weight-is, rest-below, origin-is}
+use Rattle.project.specs.Walked.{Numbered, stateAt, unfoldedAt, Walked, Underway, Coloured, Stepped, Fires, stopsAt, Trying}
+use Rattle.project.proofs.Located.{past-last, among}
+use Rattle.project.proofs.Apart.{all-events, few-events}
 
 -- ---- runs and their state, one step more
 
@@ -87,165 +79,156 @@ number-none (some unknown) e = absurd (omega arith)
 number-none (some (Rattle.model.specs.Net.lacks b)) e = absurd (omega arith)
 number-none (some (Rattle.model.specs.Net.meets b)) e = absurd (omega arith)
 
-goes-none : (o : Option Stop) → Goes ≡ stepOf o → o ≡ none
-goes-none none e = refl
-goes-none (some v) e = absurd (let z : _≡_ {A = ℕ} 0 1 = cc in omega arith)
+goes-none : (o : Option Stop) (r : Step) → r ≡ stepOf o → r ≡ Goes → o ≡ none
+goes-none none r t z = refl
+goes-none (some v) r t z = absurd (let y : _≡_ {A = ℕ} 0 1 = cc in omega arith)
 
-stops-number : (o : Option Stop) (x : Cause) → Stops x ≡ stepOf o → numberOfStop o ≡ causeNumber x
-stops-number none x e = absurd (let z : _≡_ {A = ℕ} 0 1 = cc in omega arith)
-stops-number (some v) x e = let z : causeOf v ≡ x = cc in go v ∙ ap causeNumber z
-  where
-    go : (v : Stop) → stopNumber v ≡ causeNumber (causeOf v)
-    go unknown = refl
-    go (Rattle.model.specs.Net.lacks b) = refl
-    go (Rattle.model.specs.Net.meets b) = refl
+cause-number : (v : Stop) → stopNumber v ≡ causeNumber (causeOf v)
+cause-number unknown = refl
+cause-number (Rattle.model.specs.Net.lacks b) = refl
+cause-number (Rattle.model.specs.Net.meets b) = refl
+
+-- a step that is stopped leaves bytes as they were
+step-stays : (o : Option Stop) (r : Step) (x : Cause) → r ≡ stepOf o → r ≡ Stops x → (new old : List ℕ) → old ≡ stepped o new old
+step-stays none r x t z new old = absurd (let y : _≡_ {A = ℕ} 0 1 = cc in omega arith)
+step-stays (some v) r x t z new old = refl
+
+-- a step that goes leaves the new ones
+step-moves : (o : Option Stop) → o ≡ none → (new old : List ℕ) → new ≡ stepped o new old
+step-moves o z new old = rw z refl
 
 -- ---- one step
 
-module _ (s : List ℕ) (events : ℕ) (offsets ms us before begun : List ℕ) (q : Equipped s events offsets ms us before begun)
-    (w : List ℕ) (k : ℕ) (state seen places kept : List ℕ) (c : Walked (netOf s) w k state seen places kept) (h : k < length w) where
+-- what the step of an event leaves in the bytes, by what it answers
+module _ (s : List ℕ) (at e : ℕ) (state seen places : List ℕ) (r : Step) (told : r ≡ stepOf (stopsAt s e state seen places)) where
+  abbrev after-step : List ℕ → List ℕ → Type 0
+  after-step new noted =
+      (r ≡ stepOf (stopsAt s e state seen places))
+      × ((new ≡ stepped (stopsAt s e state seen places) (bytes (length state) (fire (recordNet s at) (marking state) 0)) state)
+      × (noted ≡ stepped (stopsAt s e state seen places) (set seen e 1) seen))
+
+  pub event-goes : r ≡ Goes → stopsAt s e state seen places ≡ none
+  event-goes z = goes-none (stopsAt s e state seen places) r told z
+
+  pub event-stopped : (x : Cause) → r ≡ Stops x → after-step state seen
+  event-stopped x z = (told, (step-stays (stopsAt s e state seen places) r x told z _ state, step-stays (stopsAt s e state seen places) r x told z _ seen))
+
+  pub event-fired : r ≡ Goes → (new : List ℕ) → new ≡ bytes (length state) (fire (recordNet s at) (marking state) 0) → after-step new (set seen e 1)
+  event-fired z new y = (told, (y ∙ step-moves (stopsAt s e state seen places) (event-goes z) _ state, step-moves (stopsAt s e state seen places) (event-goes z) _ seen))
+
+module _ (s offsets ms us before begun w : List ℕ) (k : ℕ) (state seen places kept : List ℕ) (q : Underway s offsets ms us before begun w k state seen places kept)
+    (h : k < length w) where
   abbrev n : Net
   n = netOf s
 
   abbrev j : ℕ
   j = getD w k 0
 
-  pub all-events : events ≡ n .events
-  all-events = events-are-all s events (q .judged)
+  c : Walked n w k state seen places kept
+  c = q .walked
 
-  pub few-events : events ≤ 256
-  few-events = omega (arith, all-events, tabled s events (q .judged) .few-events)
+  numbered : Numbered s offsets ms before
+  numbered = q .equipped .numbered
 
-  pub surrounded : j < getD before events 0 → Around before 0 events j
-  surrounded l = rw all-events (around n before (q .sizes) j (rw (← all-events) l) (omega (arith, all-events, few-events)))
+  all : length offsets ≡ n .events
+  all = all-events s offsets ms before numbered
 
   -- a number of no unfolded event
-  pub stops-unknown : getD before events 0 ≤ j → numberOfStop (stopping (basic n) (unfoldedAt n w k) j) ≡ causeNumber Unknown
-  stops-unknown l = ap numberOfStop (past-last n before (q .sizes) j (omega (arith, ap (λ (x : ℕ). getD before x 0) all-events)) (unfoldedAt n w k))
+  pub stops-unknown : getD before (length offsets) 0 ≤ j → numberOfStop (stopping (basic n) (unfoldedAt n w k) j) ≡ causeNumber Unknown
+  stops-unknown l = ap numberOfStop (past-last n before (numbered .sizes) j (omega (arith, ap (λ (x : ℕ). getD before x 0) all)) (unfoldedAt n w k))
 
-  module _ (l : j < getD before events 0) (e : ℕ) (b : Between before events j e) (at : ℕ) (isAt : at ≡ getD offsets e 0) where
-    here : e < n .events
-    here = omega (arith, b .event, all-events)
+  module _ (l : j < getD before (length offsets) 0) (e : ℕ) (ps ks : List ℕ) (d : Coloured n j e ps ks) where
+    abbrev at : ℕ
+    at = getD offsets e 0
 
-    pub offset-is : at ≡ offsetOf s e
-    offset-is = isAt ∙ q .indexed .each e (b .event)
+    low : e < length offsets
+    low = omega (arith, d .event, all)
 
-    between : Between before (n .events) j e
-    between = rw (← all-events) b
+    offset-is : at ≡ offsetOf s e
+    offset-is = numbered .indexed .each e low
 
-    inside : j < getD before (n .events) 0
-    inside = rw (← all-events) l
+    event-is : origin n j .event ≡ e
+    event-is = ap (λ (x : UnfoldedEvent). x .event) (d .whole)
 
-    module _ (pre : List ℕ) (isPre : pre ≡ prePart s at) where
-      pre-is : words pre ≡ n .preconditions e
-      pre-is = rw (isPre, offset-is) (list-read s e here false)
+    colour-is : origin n j .colour ≡ map (markerAt n ps) (reads n (origin n j .event))
+    colour-is = ap (λ (x : UnfoldedEvent). x .colour) (d .whole) ∙ sym (ap (λ (x : ℕ). map (markerAt n ps) (reads n x)) event-is)
 
-      choices-is : choicesOf s (words pre) ≡ map (markers n) (reads n e)
-      unfolding reads
-      choices-is = ap (choicesOf s) pre-is
+    copied : Copies n (stateAt n w k) (unfoldedAt n w k)
+    copied = project-from n (within-limits s e (d .event) .sound) (opening n) (begin (basic n)) (copies-opening n) (take k w) (c .plays) .1
 
-      pub choosing : Choosing s ms events (words pre) (getD before (e + 1) 0 - getD before e 0) (j - getD before e 0) places kept
-      unfolding size reads eventCount
-      choosing =
-          let weight = weight-is n before (q .sizes) j e between in
-          let limits = within-limits s e here in
+    abbrev told : Option Stop
+    told = stopsAt s e state seen ps
+
+    same-number : numberOfStop (stopping (basic n) (unfoldedAt n w k) j) ≡ numberOfStop told
+    same-number =
+        decided n (within-limits s e (d .event) .sound) (stateAt n w k) (unfoldedAt n w k) copied j (among n before (numbered .sizes) j (rw (← all) l)) (markerAt n ps) colour-is
+        ∙ rw (event-is, c .here, c .occurred) refl
+
+    -- it goes
+    module _ (t : told ≡ none) where
+      unfolded-can : T (can (basic n) (unfoldedAt n w k) j)
+      unfolded-can = none-can (basic n) (unfoldedAt n w k) j (number-none (stopping (basic n) (unfoldedAt n w k) j) (same-number ∙ ap numberOfStop t))
+
+      table-can : T (can n (marking state) e)
+      table-can =
+          subst (λ (x : ℕ). T (can n (marking state) x)) event-is
+          (subst (λ (m : Marking). T (can n m (origin n j .event))) (sym (c .here)) (back-can n (within-limits s e (d .event) .sound) (stateAt n w k) (unfoldedAt n w k) copied j unfolded-can))
+
+      fires : Fires s at state
+      fires = record {
+        lents = c .lents;
+        goes = rw offset-is (sym (stopping-found s (length offsets) (numbered .judged) e low (marking state)) ∙ can-none n (marking state) e table-can);
+      }
+
+      next : take (k + 1) w ≡ take k w ++ (j ∷ [])
+      next = rw add-one (take-suc w k 0 h)
+
+      state-next : stateAt n w (k + 1) ≡ step n (stateAt n w k) e
+      state-next =
+          ap (λ (y : List ℕ). after n (opening n) (readBack n y)) next ∙ ap (after n (opening n)) (read-snoc n (take k w) j)
+          ∙ after-snoc n (opening n) (readBack n (take k w)) (origin n j .event) ∙ ap (step n (stateAt n w k)) event-is
+
+      walked-on : (new noted : List ℕ) → new ≡ bytes (length state) (fire (recordNet s at) (marking state) 0) → noted ≡ set seen e 1 → Walked n w (k + 1) new noted ps ks
+      unfolding step
+      walked-on new noted z y =
+          let limits = within-limits s e (d .event) in
+          let is : new ≡ bytes (length state) (fire n (marking state) e) = z ∙ ap (bytes (length state)) (rw offset-is (sym (fire-found s (length offsets) (numbered .judged) e (marking state)))) in
           record {
-            picking = record {
-              within = record { marked = q .counted .marked; few = q .few; all = all-events };
-              inside = λ x t. list-inside s e here false x (subst (λ (y : List ℕ). T (mem x y)) pre-is t);
-              whole = weight ∙ sym (ap ways choices-is);
-              limit = omega (arith, weight, q .few, sum-part (size n) (n .events) e here);
-              below = omega (arith, weight, rest-below n before (q .sizes) j e between);
-              room = omega (arith, ap (λ (y : List ℕ). length (keep (n .persistent) y)) pre-is, limits .few-persistent e here);
-            };
-            ascends = subst (λ (y : List ℕ). T (Rattle.lists.specs.Lists.ascending y)) (sym pre-is) (list-ascends s e here false);
-            held = c .held;
+            short = c .short;
+            upto = omega arith;
+            plays = subst (λ (y : List ℕ). T (runs (basic n) (begin (basic n)) y)) (sym next) (runs-snoc (basic n) (begin (basic n)) (take k w) j (c .plays) unfolded-can);
+            lents = rw is (lent-bytes (length state) (fire n (marking state) e));
+            long = ap length is ∙ length-bytes (length state) (fire n (marking state) e) ∙ c .long;
+            here =
+                ap marking is ∙ fired-marking n (limits .sound) state e (omega (arith, limits .few-conditions, c .long)) table-can
+                ∙ ap (λ (m : Marking). fire n m e) (c .here) ∙ sym (ap (λ (x : State). x .marking) state-next);
+            noted = rw y (lent-set seen e (c .noted));
+            wide = ap length y ∙ length-set seen e 1 ∙ c .wide;
+            occurred =
+                ap marking y ∙ seen-set seen e (omega (arith, d .event, limits .few-events, c .wide))
+                ∙ ap (λ (m : Marking). λ (x : ℕ). eqb x e || m x) (c .occurred) ∙ sym (ap (λ (x : State). x .seen) state-next);
+            held = d .held;
           }
 
-      module _ (ps ks : List ℕ) (d : Chosen s (words pre) (j - getD before e 0) places ps ks) where
-        pub deciding : Deciding s us at e begun ps ks
-        deciding = record {
-          flags = q .counted .marked .flags;
-          uses = q .counted .uses;
-          event = here;
-          offset = offset-is;
-          start = q .start;
-          held = d .held;
-        }
+    pub trying : Trying s us at e begun state seen ps ks
+    trying = record {
+      deciding = record {
+        flags = numbered .marked .flags;
+        uses = q .equipped .uses;
+        event = d .event;
+        offset = offset-is;
+        start = q .equipped .start;
+        held = d .held;
+      };
+      room = omega (arith, low, few-events s offsets ms before numbered, c .wide);
+      fires = fires;
+    }
 
-        colour-is : origin n j .colour ≡ map (markerAt n ps) (reads n (origin n j .event))
-        unfolding reads
-        colour-is =
-            rw (origin-is n before (q .sizes) j e between)
-            (sym (ap (λ (y : List ℕ). map (markerAt n ps) (keep (n .persistent) y)) (sym pre-is) ∙ d .colour ∙ ap (λ (y : List (List Rattle.model.specs.Runs.Marker)). digits y (j - getD before e 0)) choices-is))
-
-        event-is : origin n j .event ≡ e
-        event-is = rw (origin-is n before (q .sizes) j e between) refl
-
-        copied : Copies n (stateAt n w k) (unfoldedAt n w k)
-        copied = project-from n (within-limits s e here .sound) (opening n) (begin (basic n)) (copies-opening n) (take k w) (c .plays) .1
-
-        abbrev told : Option Stop
-        told = stoppedBy n (marking state) (marking seen) (markerAt n ps) e
-
-        same-number : numberOfStop (stopping (basic n) (unfoldedAt n w k) j) ≡ numberOfStop told
-        same-number =
-            decided n (within-limits s e here .sound) (stateAt n w k) (unfoldedAt n w k) copied j (among n before (q .sizes) j inside) (markerAt n ps) colour-is
-            ∙ rw (event-is, c .here, c .occurred) refl
-
-        -- what stops it
-        stops-told : (x : Cause) → Stops x ≡ stepOf told → numberOfStop (stopping (basic n) (unfoldedAt n w k) j) ≡ causeNumber x
-        stops-told x t = same-number ∙ stops-number told x t
-
-        pub step-stops : (r : Step) → r ≡ stepOf told → (x : Cause) → r ≡ Stops x → (a b c d : List ℕ) → Stepped n w k r a b c d
-        step-stops r t x z a b c d = rw z (stops-told x (sym z ∙ t))
-
-        -- it goes
-        module _ (t : Goes ≡ stepOf told) where
-          unfolded-can : T (can (basic n) (unfoldedAt n w k) j)
-          unfolded-can = none-can (basic n) (unfoldedAt n w k) j (number-none (stopping (basic n) (unfoldedAt n w k) j) (same-number ∙ ap numberOfStop (goes-none told t)))
-
-          table-can : T (can n (marking state) e)
-          table-can =
-              subst (λ (x : ℕ). T (can n (marking state) x)) event-is
-              (subst (λ (m : Marking). T (can n m (origin n j .event))) (sym (c .here)) (back-can n (within-limits s e here .sound) (stateAt n w k) (unfoldedAt n w k) copied j unfolded-can))
-
-          pub fires : Fires s at state
-          fires = record {
-            lents = c .lents;
-            goes = rw offset-is (sym (stopping-found s events (q .judged) e (b .event) (marking state)) ∙ can-none n (marking state) e table-can);
-          }
-
-          next : take (k + 1) w ≡ take k w ++ (j ∷ [])
-          next = rw add-one (take-suc w k 0 h)
-
-          state-next : stateAt n w (k + 1) ≡ step n (stateAt n w k) e
-          state-next =
-              ap (λ (y : List ℕ). after n (opening n) (readBack n y)) next ∙ ap (after n (opening n)) (read-snoc n (take k w) j)
-              ∙ after-snoc n (opening n) (readBack n (take k w)) (origin n j .event) ∙ ap (step n (stateAt n w k)) event-is
-
-          walked-on : (new : List ℕ) → new ≡ bytes (length state) (fire (recordNet s at) (marking state) 0) → Walked n w (k + 1) new (set seen e 1) ps ks
-          unfolding step
-          walked-on new z =
-              let limits = within-limits s e here in
-              let is : new ≡ bytes (length state) (fire n (marking state) e) = z ∙ ap (bytes (length state)) (rw offset-is (sym (fire-found s events (q .judged) e (marking state)))) in
-              record {
-                short = c .short;
-                upto = omega arith;
-                plays = subst (λ (y : List ℕ). T (runs (basic n) (begin (basic n)) y)) (sym next) (runs-snoc (basic n) (begin (basic n)) (take k w) j (c .plays) unfolded-can);
-                lents = rw is (lent-bytes (length state) (fire n (marking state) e));
-                long = ap length is ∙ length-bytes (length state) (fire n (marking state) e) ∙ c .long;
-                here =
-                    ap marking is ∙ fired-marking n (limits .sound) state e (omega (arith, limits .few-conditions, c .long)) table-can
-                    ∙ ap (λ (m : Marking). fire n m e) (c .here) ∙ sym (ap (λ (x : State). x .marking) state-next);
-                noted = lent-set seen e (c .noted);
-                wide = length-set seen e 1 ∙ c .wide;
-                occurred =
-                    seen-set seen e (omega (arith, here, limits .few-events, c .wide))
-                    ∙ ap (λ (m : Marking). λ (x : ℕ). eqb x e || m x) (c .occurred) ∙ sym (ap (λ (x : State). x .seen) state-next);
-                held = d .held;
-              }
-
-        pub step-goes : (r : Step) → r ≡ stepOf told → r ≡ Goes → (new : List ℕ) → new ≡ bytes (length state) (fire (recordNet s at) (marking state) 0)
-            → Stepped n w k r new (set seen e 1) ps ks
-        step-goes r t z new y = rw z (walked-on (sym z ∙ t) new y)
+    pub step-told : (r : Step) (new noted : List ℕ) → r ≡ stepOf told → new ≡ stepped told (bytes (length state) (fire (recordNet s at) (marking state) 0)) state
+        → noted ≡ stepped told (set seen e 1) seen → Stepped n w k r new noted ps ks
+    step-told r new noted t x y = go told refl t x y
+      where
+        go : (o : Option Stop) → told ≡ o → r ≡ stepOf o → new ≡ stepped o (bytes (length state) (fire (recordNet s at) (marking state) 0)) state
+            → noted ≡ stepped o (set seen e 1) seen → Stepped n w k r new noted ps ks
+        go none z t x y = rw t (walked-on z new noted x y)
+        go (some v) z t x y = rw t (same-number ∙ ap numberOfStop z ∙ cause-number v)

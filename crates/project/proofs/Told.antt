@@ -1,15 +1,16 @@
 -- What the calls answer, from the layout of the table and the replay of the run.
-use Prim.Native.Nat.{ℕ, _≤_, _<_}
+use Prim.Native.Nat.{ℕ, _≤_, _<_, zero, suc}
 use native.Mathlib.Omega.{arith}
-use mathlib.Core.Path.{_≡_, refl, sym, ap, _∙_}
+use mathlib.Core.Path.{_≡_, refl, sym, ap, _∙_, subst}
+use mathlib.Core.Bool.{Bool, true, false}
 use mathlib.Core.Option.{Option, none, some}
-use mathlib.Core.List.{List, _++_}
-use lib.Dec.{leb}
-use lib.ListN.{length, getD, drop}
+use mathlib.Core.List.{List, _++_, [], _∷_}
+use lib.Dec.{leb, T, leb→le, ltb→lt}
+use lib.ListN.{length, getD, drop, length-map}
 use borrow.Author.Tests.{lt-leb, le-leb}
-use Rattle.model.specs.Net.{Net, begin}
-use Rattle.model.specs.Runs.{opening, replay}
-use Rattle.model.specs.Unfolding.{basic}
+use Rattle.model.specs.Net.{Net, begin, Marking, fire}
+use Rattle.model.specs.Runs.{opening, replay, runs}
+use Rattle.model.specs.Unfolding.{basic, origin}
 use Rattle.model.specs.Numbering.{size}
 use Rattle.model.specs.Across.{Refusal, Answer, run, unless, stuck, tooLong, unfoldingRefused, readBack, projecting, project}
 use Rattle.model.proofs.Firing.{runs-event}
@@ -18,7 +19,7 @@ use Rattle.model.proofs.Project.{length-back}
 use Rattle.refusal.specs.declared.Refusal as declared
 use Rattle.refusal.specs.declared.Judged.{Judged}
 use Rattle.refusal.specs.declared.Judged.the-variants.{Fine, Refused}
-use Rattle.refusal.specs.Answer.{refusedAt, need, fitting, written}
+use Rattle.refusal.specs.Answer.{refusedAt, valueOf, fitting, written}
 use Rattle.refusal.proofs.Chain.{never-both, need-passes, need-refuses, then-fine}
 use Rattle.table.specs.Walk.{judgeOf}
 use Rattle.table.specs.Decoded.{netOf}
@@ -32,7 +33,7 @@ use Rattle.project.specs.Calls.{projectOf, projectedOf}
 use Rattle.project.specs.Walked.{Replayed, Reading, Read}
 use Rattle.project.proofs.Located.{total}
 use Rattle.project.proofs.Walks.{few-judged}
-use Rattle.project.proofs.Back.{read-is}
+use Rattle.project.proofs.Back.{read-none, read-is}
 
 -- ---- answers of the model
 
@@ -89,15 +90,8 @@ module _ (s w out : List ℕ) where
           left-alone p (stuck-fitted (stuck (replay (basic n) 0 (opening (basic n)) w)) (run (readBack n w)) (length w) (length out) p (t .told) z ∙ sym goes) z
 
       module _ (v : ℕ) (z : p ≡ Fine v) where
-        pub steps-are : v ≡ length w
-        steps-are = go (stuck (replay (basic n) 0 (opening (basic n)) w)) (sym z ∙ t .told)
-          where
-            go : (o : Option Refusal) → Fine v ≡ refusedOr o (Fine (length w)) → v ≡ length w
-            go none q = cc
-            go (some y) q = never-both q
-
-        pub reading : (ms us bases before : List ℕ) → Ready s (length w) ms us bases before → v ≤ length out → Reading before m w out
-        reading ms us bases before d h = record {
+        pub reading : (ms us bases before : List ℕ) → Ready s (length w) ms us bases before → Reading before m w
+        reading ms us bases before d = record {
           few = few-judged s m (judged-is m f);
           first = d .sizes .at 0 (omega arith);
           size = d .sizes .size;
@@ -105,24 +99,24 @@ module _ (s w out : List ℕ) where
               let last : getD before m 0 ≡ basic n .events = ap (λ (x : ℕ). getD before x 0) (all-events m f) ∙ total n before (d .sizes) 0 in
               let low = runs-event (basic n) (begin (basic n)) w k (t .plays v z) l in
               omega (arith, last, low);
-          room = omega (arith, steps-are);
         }
 
-        fits : projectOf s w (length out) ≡ need (leb (length w) (length out)) 16 (length w) (Fine (length w))
-        unfolding fitted fitting
+        fits : projectOf s w (length out) ≡ fitting (length w) (length out)
+        unfolding fitted
         fits = goes ∙ rw (run-projecting n w (t .plays v z), length-back n w) refl
 
-        pub told-short : length out < v → (refusedAt 16 v ≡ projectOf s w (length out)) × (out ≡ projectedOf s w out)
-        told-short h =
-            left-alone (refusedAt 16 v)
-            (rw steps-are (sym (fits ∙ need-refuses 16 (length w) (Fine (length w)) (lt-leb (length w) (length out) (rw (← steps-are) h))))) refl
-
-        pub told-fine : v ≤ length out → (before new : List ℕ) → Sums (size n) (n .events) before → Read before m w (length w) out new → (Fine v ≡ projectOf s w (length out)) × (new ≡ projectedOf s w out)
-        unfolding projectedOf
-        told-fine h before new sizes d =
-            let q = read-is n before sizes m (all-events m f) w out new (omega (arith, steps-are)) d in
-            let fine : projectOf s w (length out) ≡ Fine (length w) = fits ∙ need-passes 16 (length w) (le-leb (length w) (length out) (rw (← steps-are) h)) in (
-              ap Fine steps-are ∙ sym fine,
-              q ∙ ap (λ (k : ℕ). readBack n w ++ drop k out) (sym (length-back n w))
-                  ∙ sym (ap (λ (a : List ℕ). written (projectOf s w (length out)) a out) (numbers-are (length w) fine) ∙ ap (λ (a : Judged). written a (readBack n w) out) fine),
-            )
+        pub told-written : (before new : List ℕ) → Sums (size n) (n .events) before → (a : Judged) → a ≡ fitting (length w) (length out)
+            → Read before m w (valueOf a) out new → (a ≡ projectOf s w (length out)) × (new ≡ projectedOf s w out)
+        unfolding projectedOf fitting
+        told-written before new sizes a is d = (is ∙ sym fits, go (leb (length w) (length out)) refl)
+          where
+            go : (b : Bool) → leb (length w) (length out) ≡ b → new ≡ projectedOf s w out
+            go true l =
+                let fine : a ≡ Fine (length w) = is ∙ need-passes 16 (length w) l in
+                let call : projectOf s w (length out) ≡ Fine (length w) = fits ∙ sym is ∙ fine in
+                read-is n before sizes m (all-events m f) w out new (leb→le (length w) (length out) (rw l tt)) (subst (λ (x : Judged). Read before m w (valueOf x) out new) fine d)
+                ∙ ap (λ (k : ℕ). readBack n w ++ drop k out) (sym (length-back n w))
+                ∙ sym (ap (λ (x : List ℕ). written (projectOf s w (length out)) x out) (numbers-are (length w) call) ∙ ap (λ (x : Judged). written x (readBack n w) out) call)
+            go false l =
+                let short : a ≡ refusedAt 16 (length w) = is ∙ need-refuses 16 (length w) (Fine (length w)) l in
+                read-none before m w out new (subst (λ (x : Judged). Read before m w (valueOf x) out new) short d) ∙ left-alone a (is ∙ sym fits) short .1

@@ -3,13 +3,15 @@ use refusal::Judged;
 use step::Cause;
 use step::Step;
 ghost use mathlib.Core.Path.{_≡_};
-ghost use Prim.Native.Nat.{_<_};
-ghost use lib.ListN.{length, replicate};
+ghost use Prim.Native.Nat.{_≤_, _<_};
+ghost use lib.ListN.{length, getD, set, replicate};
 ghost use Rattle.model.specs.Net.{fire};
 ghost use Rattle.model.specs.Lent.{bytes, marking};
+ghost use Rattle.refusal.specs.Answer.{valueOf, fitting};
 ghost use Rattle.table.specs.Decoded.{netOf};
-ghost use Rattle.step.specs.Steps.{recordNet};
-ghost use Rattle.project.specs.Walked.{Equipped, Walked, Stepped, Fires, Replayed, Replayable, Reading, Read};
+ghost use Rattle.step.specs.Steps.{recordNet, stepOf, stepped};
+ghost use Rattle.decided.specs.Kept.{Kept};
+ghost use Rattle.project.specs.Walked.{Numbered, Underway, Coloured, Stepped, Fires, stopsAt, Trying, Replayed, Replayable, Reading, Read};
 ghost use Rattle.project.specs.Calls.{projectOf, projectedOf};
 
 // The event whose record stands at an offset, fired on the bytes of a marking.
@@ -22,10 +24,70 @@ fn fire_at(table: &[u8], at: usize, state: &mut [u8])
     step::set_all(&table[..0], records::post_at(table, at), 1, state);
 }
 
+// The event of an unfolded number, whose colour is laid out by condition.
+fn lay_colour<'a>(
+    table: &'a [u8],
+    offsets: &'a [usize],
+    markers: &'a [u32],
+    before: &'a [u32],
+    j: u32,
+    places: &mut [u32],
+    kept: &mut [u32],
+) -> usize
+    requires { ⌜ Numbered (now table) (now offsets) (now markers) (now before) ⌝ }
+    requires { ⌜ j < getD (now before) (length (now offsets)) 0 ⌝ }
+    requires { ⌜ Kept (netOf (now table)) (now places) (now kept) ⌝ }
+    ensures { λ r. ⌜ Coloured (netOf (now (table .entry))) j r (now (places .exit)) (now (kept .exit)) ⌝ }
+{
+    let events = offsets.len();
+    let e = across::event_of(before, events, j);
+    let pre = records::pre_at(table, offsets[e]);
+    let first = before[e];
+    let weight = before[e + 1] - first;
+    decided::choose(table, events, markers, pre, weight, j - first, places, kept);
+    e
+}
+
+// The step of event e, whose record stands at an offset, with the markers that are kept for it: decided, and where nothing stops it
+// fired and noted.
+fn step_event<'a>(
+    table: &'a [u8],
+    at: usize,
+    e: usize,
+    users: &'a [u32],
+    begun: &'a [u8],
+    state: &mut [u8],
+    seen: &mut [u8],
+    places: &'a [u32],
+    kept: &'a [u32],
+) -> Step
+    requires { ⌜ Trying (now table) (now users) at e (now begun) (now state) (now seen) (now places) (now kept) ⌝ }
+    ensures answer { λ r. ⌜ r ≡ stepOf (stopsAt (now (table .entry)) e (now (state .entry)) (now (seen .entry)) (now (places .entry))) ⌝ }
+    ensures after { λ _. ⌜ now (state .exit) ≡ stepped (stopsAt (now (table .entry)) e (now (state .entry)) (now (seen .entry)) (now (places .entry))) (bytes (length (now (state .entry))) (fire (recordNet (now (table .entry)) at) (marking (now (state .entry))) 0)) (now (state .entry)) ⌝ }
+    ensures noted { λ _. ⌜ now (seen .exit) ≡ stepped (stopsAt (now (table .entry)) e (now (state .entry)) (now (seen .entry)) (now (places .entry))) (set (now (seen .entry)) e 1) (now (seen .entry)) ⌝ }
+{
+    let answer = decided::decide(
+        table,
+        at,
+        e,
+        users,
+        &state[..],
+        begun,
+        &seen[..],
+        places,
+        kept,
+    );
+    let Step::Goes = answer else {
+        return answer;
+    };
+    fire_at(table, at, state);
+    seen[e] = 1;
+    answer
+}
+
 // Step k of an unfolded run: its event is found, its colour laid out and tested, and the event fired on the table's marking.
 fn step_unfolded<'a>(
     table: &'a [u8],
-    events: usize,
     offsets: &'a [usize],
     markers: &'a [u32],
     users: &'a [u32],
@@ -38,52 +100,31 @@ fn step_unfolded<'a>(
     places: &mut [u32],
     kept: &mut [u32],
 ) -> Step
-    requires { ⌜ Equipped (now table) events (now offsets) (now markers) (now users) (now before) (now begun) ⌝ }
-    requires { ⌜ Walked (netOf (now table)) (now lifted) k (now state) (now seen) (now places) (now kept) ⌝ }
+    requires { ⌜ Underway (now table) (now offsets) (now markers) (now users) (now before) (now begun) (now lifted) k (now state) (now seen) (now places) (now kept) ⌝ }
     requires { ⌜ k < length (now lifted) ⌝ }
     ensures { λ r. ⌜ Stepped (netOf (now (table .entry))) (now (lifted .entry)) k r (now (state .exit)) (now (seen .exit)) (now (places .exit)) (now (kept .exit)) ⌝ }
 {
     let j = lifted[k] as u32;
-    if before[events] <= j {
+    if before[offsets.len()] <= j {
         return Step::Stops(Cause::Unknown);
     }
-    let e = across::event_of(before, events, j);
-    let at = offsets[e];
-    let first = before[e];
-    let pre = records::pre_at(table, at);
-    decided::choose(
+    let e = lay_colour(table, offsets, markers, before, j, places, kept);
+    step_event(
         table,
-        events,
-        markers,
-        pre,
-        before[e + 1] - first,
-        j - first,
-        places,
-        kept,
-    );
-    let answer = decided::decide(
-        table,
-        at,
+        offsets[e],
         e,
         users,
-        &state[..],
         begun,
-        &seen[..],
+        state,
+        seen,
         &places[..],
         &kept[..],
-    );
-    let Step::Goes = answer else {
-        return answer;
-    };
-    fire_at(table, at, state);
-    seen[e] = 1;
-    answer
+    )
 }
 
 // All steps of an unfolded run, from the table's start in the bytes; fine: their number.
 fn play<'a>(
     table: &'a [u8],
-    events: usize,
     offsets: &'a [usize],
     markers: &'a [u32],
     users: &'a [u32],
@@ -95,15 +136,13 @@ fn play<'a>(
     places: &mut [u32],
     kept: &mut [u32],
 ) -> Judged
-    requires { ⌜ Equipped (now table) events (now offsets) (now markers) (now users) (now before) (now begun) ⌝ }
-    requires { ⌜ Walked (netOf (now table)) (now lifted) 0 (now state) (now seen) (now places) (now kept) ⌝ }
+    requires { ⌜ Underway (now table) (now offsets) (now markers) (now users) (now before) (now begun) (now lifted) 0 (now state) (now seen) (now places) (now kept) ⌝ }
     ensures { λ r. ⌜ Replayed (netOf (now (table .entry))) (now (lifted .entry)) r (now (state .exit)) (now (seen .exit)) ⌝ }
 {
     let mut k: usize = 0;
     while k < lifted.len() {
         let step = step_unfolded(
             table,
-            events,
             offsets,
             markers,
             users,
@@ -148,8 +187,7 @@ pub fn replay_lifted<'a>(
     let mut kept = [0u32; 256];
     play(
         table,
-        events,
-        &offsets,
+        &offsets[0..events],
         markers,
         users,
         before,
@@ -164,7 +202,8 @@ pub fn replay_lifted<'a>(
 
 // The event behind each number of a run, over the first numbers of an output.
 fn read_back<'a>(before: &'a [u32], events: usize, lifted: &'a [u16], out: &mut [u16])
-    requires { ⌜ Reading (now before) events (now lifted) (now out) ⌝ }
+    requires { ⌜ Reading (now before) events (now lifted) ⌝ }
+    requires { ⌜ length (now lifted) ≤ length (now out) ⌝ }
     ensures { λ _. ⌜ Read (now (before .entry)) events (now (lifted .entry)) (length (now (lifted .entry))) (now (out .entry)) (now (out .exit)) ⌝ }
 {
     let mut k: usize = 0;
@@ -172,6 +211,20 @@ fn read_back<'a>(before: &'a [u32], events: usize, lifted: &'a [u16], out: &mut 
         out[k] = across::event_of(before, events, lifted[k] as u32) as u16;
         k = k + 1;
     }
+}
+
+// The same where the output has room for all of them; fine: how many.
+fn write_back<'a>(before: &'a [u32], events: usize, lifted: &'a [u16], out: &mut [u16]) -> Judged
+    requires { ⌜ Reading (now before) events (now lifted) ⌝ }
+    ensures answer { λ r. ⌜ r ≡ fitting (length (now (lifted .entry))) (length (now (out .entry))) ⌝ }
+    ensures after { λ r. ⌜ Read (now (before .entry)) events (now (lifted .entry)) (valueOf r) (now (out .entry)) (now (out .exit)) ⌝ }
+{
+    let steps = lifted.len();
+    if out.len() < steps {
+        return refusal::refused(16, steps);
+    }
+    read_back(before, events, lifted, out);
+    Judged::Fine(steps)
 }
 
 // The projection of an unfolded run: replayed from the unfolded start, each number then replaced by its event of the table.
@@ -206,12 +259,8 @@ pub fn project<'a>(table: &'a [u8], lifted: &'a [u16], out: &mut [u16]) -> Judge
         &mut state,
         &mut seen,
     );
-    let Judged::Fine(steps) = played else {
+    let Judged::Fine(_) = played else {
         return played;
     };
-    if out.len() < steps {
-        return refusal::refused(16, steps);
-    }
-    read_back(&before, events, lifted, out);
-    Judged::Fine(steps)
+    write_back(&before, events, lifted, out)
 }

@@ -26,19 +26,19 @@ cast-event-of c =
 
 event-of-requires : tie.Need-event-of-requires Inv-loop μ-loop
 event-of-requires c κs =
-    read-around _ _ _ _ (c .before .before .before .before .before .before .pre) (c .before .before .loop .k) (c .before .loop-test .taken)
+    read-around _ _ _ (c .before .before .before .before .before .before .pre .0) (c .before .before .loop .k) (c .before .loop-test .taken)
 
 cast-out : tie.Need-cast-out Inv-loop μ-loop
 cast-out c =
-    omega (arith, c .event-of .ensures .event, c .before .before .before .before .before .before .before .pre .few)
+    omega (arith, c .event-of .ensures .event, c .before .before .before .before .before .before .before .pre .0 .few)
 
 slice-write-out : tie.Need-slice-write-out Inv-loop μ-loop
 slice-write-out c =
-    omega (arith, c .before .before .before .before .before .before .before .pre .room, c .before .before .before .loop .inv .1 .long)
+    omega (arith, c .before .before .before .before .before .before .before .pre .1, c .before .before .before .loop .inv .1 .long)
 
 loop-again : tie.Need-loop-again Inv-loop μ-loop
 loop-again c =
-    (omega arith, read-on _ _ _ (c .before .before .before .loop .k) _ _ (c .before .before .before .loop .inv .1) (omega (arith, c .before .before .before .before .before .before .before .pre .room, c .before .before .before .loop .inv .1 .long)) _ (c .event-of .ensures))
+    (omega arith, read-on _ _ _ (c .before .before .before .loop .k) _ _ (c .before .before .before .loop .inv .1) (omega (arith, c .before .before .before .before .before .before .before .pre .1, c .before .before .before .loop .inv .1 .long)) _ (c .event-of .ensures))
 
 same-length : tie.Need-same-length Inv-loop μ-loop
 same-length c =
