@@ -60,28 +60,37 @@ module _ (n : Net) (j : ℕ) where
       ∙ ap (cond (mem i post && true) 1) (all-at [] 0 pre l i h ∙ ap (cond (mem i pre && true) 0) (lent-at l lent i h))
       ∙ fired-at (mem i post) (mem i pre) (marking l i))
 
-  module _ (l pre post : List ℕ) (low : ltb j (basic n .events) ≡ true) (ip : pre ≡ basic n .preconditions j) (iq : post ≡ basic n .postconditions j)
-      (r : Step) (told : r ≡ stepOf (stops (marking l) pre post)) where
-    pub step-told : r ≡ stepOf (stopping (basic n) (marking l) j)
-    step-told =
-        let same : stops (marking l) pre post ≡ stopping (basic n) (marking l) j = rw (ip, iq) (stops-basic (marking l) low) in
-        told ∙ ap stepOf same
+  module _ (l pre post : List ℕ) (low : ltb j (basic n .events) ≡ true) (ip : pre ≡ basic n .preconditions j) (iq : post ≡ basic n .postconditions j) where
+    same : stops (marking l) pre post ≡ stopping (basic n) (marking l) j
+    same = rw (ip, iq) (stops-basic (marking l) low)
 
-    pub step-kept : (x : Cause) → r ≡ Stops x → (new : List ℕ) → l ≡ stepped (stopping (basic n) (marking l) j) new l
-    step-kept x h new = go (stopping (basic n) (marking l) j) (sym step-told ∙ h)
-      where
-        go : (o : Option Stop) → stepOf o ≡ Stops x → l ≡ stepped o new l
-        go none e = absurd (let z : _≡_ {A = ℕ} 0 1 = cc in omega arith)
-        go (some v) e = refl
+    pub step-told : (r : Step) → r ≡ stepOf (stops (marking l) pre post) → r ≡ stepOf (stopping (basic n) (marking l) j)
+    step-told r told = told ∙ ap stepOf same
 
-    pub step-written : r ≡ Goes → Lent l → (c : ℕ) → length l ≡ c
-        → setAll [] 1 post (setAll [] 0 pre l) ≡ stepped (stopping (basic n) (marking l) j) (bytes c (fire (basic n) (marking l) j)) l
-    step-written h lent c long =
-        rw (ip, iq) (fired l lent) ∙ ap (λ (k : ℕ). bytes k (fire (basic n) (marking l) j)) long ∙ go (stopping (basic n) (marking l) j) (sym step-told ∙ h)
-      where
-        go : (o : Option Stop) → stepOf o ≡ Goes → bytes c (fire (basic n) (marking l) j) ≡ stepped o (bytes c (fire (basic n) (marking l) j)) l
-        go none e = refl
-        go (some v) e = absurd (let z : _≡_ {A = ℕ} 0 1 = cc in omega arith)
+    pub step-after : Lent l → (c : ℕ) → length l ≡ c → (new : List ℕ) → new ≡ stepped (stops (marking l) pre post) (setAll [] 1 post (setAll [] 0 pre l)) l
+        → new ≡ stepped (stopping (basic n) (marking l) j) (bytes c (fire (basic n) (marking l) j)) l
+    step-after lent c long new told =
+        let written : setAll [] 1 post (setAll [] 0 pre l) ≡ bytes c (fire (basic n) (marking l) j)
+        = rw (ip, iq) (fired l lent) ∙ ap (λ (k : ℕ). bytes k (fire (basic n) (marking l) j)) long in
+        told ∙ ap (λ (o : Option Stop). stepped o (setAll [] 1 post (setAll [] 0 pre l)) l) same
+        ∙ ap (λ (x : List ℕ). stepped (stopping (basic n) (marking l) j) x l) written
+
+-- ---- a step over lists
+
+module _ (l pre post : List ℕ) (r : Step) (told : r ≡ stepOf (stops (marking l) pre post)) where
+  pub over-kept : (x : Cause) → r ≡ Stops x → l ≡ stepped (stops (marking l) pre post) (setAll [] 1 post (setAll [] 0 pre l)) l
+  over-kept x h = go (stops (marking l) pre post) (sym told ∙ h)
+    where
+      go : (o : Option Stop) → stepOf o ≡ Stops x → l ≡ stepped o (setAll [] 1 post (setAll [] 0 pre l)) l
+      go none e = absurd (let z : _≡_ {A = ℕ} 0 1 = cc in omega arith)
+      go (some v) e = refl
+
+  pub over-written : r ≡ Goes → setAll [] 1 post (setAll [] 0 pre l) ≡ stepped (stops (marking l) pre post) (setAll [] 1 post (setAll [] 0 pre l)) l
+  over-written h = go (stops (marking l) pre post) (sym told ∙ h)
+    where
+      go : (o : Option Stop) → stepOf o ≡ Goes → setAll [] 1 post (setAll [] 0 pre l) ≡ stepped o (setAll [] 1 post (setAll [] 0 pre l)) l
+      go none e = refl
+      go (some v) e = absurd (let z : _≡_ {A = ℕ} 0 1 = cc in omega arith)
 
 -- ---- the numbers of its lists
 

@@ -1,11 +1,13 @@
 // The firing of an unfolded event on a lent unfolded marking: its lists are walked as ranges, and none of their numbers is kept.
 use refusal::Judged;
 use refusal::UnfoldedEvent;
+use segments::Owner;
 use unfolding::Found;
 use walking::Cause;
 use walking::Step;
 ghost use mathlib.Core.Path.{_≡_};
-ghost use Prim.Native.Nat.{_+_};
+ghost use mathlib.Core.List.{[]};
+ghost use Prim.Native.Nat.{_+_, _≤_};
 ghost use lib.ListN.{length};
 ghost use Rattle.lists.specs.Lists.{sum};
 ghost use Rattle.model.specs.Net.{fire, stopping};
@@ -13,30 +15,51 @@ ghost use Rattle.model.specs.Unfolding.{basic};
 ghost use Rattle.model.specs.Numbering.{size};
 ghost use Rattle.model.specs.Lent.{bytes, marking};
 ghost use Rattle.table.specs.Decoded.{netOf};
-ghost use Rattle.segments.specs.Ranges.{Owned};
+ghost use Rattle.segments.specs.Ranges.{ranged, Owned};
 ghost use Rattle.step.specs.Lent.{Lent};
-ghost use Rattle.step.specs.Steps.{stepped};
-ghost use Rattle.walking.specs.Steps.{stepOf};
+ghost use Rattle.step.specs.Steps.{setAll, stepped};
+ghost use Rattle.walking.specs.Steps.{stepOf, stops, Below};
 ghost use Rattle.firing.specs.Calls.{unfoldedFireOf, unfoldedFiredOf};
 ghost use Rattle.firing.specs.Steps.{causeNumber, answeredOf, Lending};
 
-// One step of the unfolded net: the unfolded event that event e and what is left of a number name is tested, then fired.
+// A step over the ranges of what is taken and of what is put: tested, then what is taken cleared and what is put set.
+fn step_over<'a>(
+    starts: &'a [u32],
+    sizes: &'a [u32],
+    taken: usize,
+    firsts: &'a [u32],
+    widths: &'a [u32],
+    put: usize,
+    state: &mut [u8],
+) -> Step
+    requires { ⌜ Below (now starts) (now sizes) taken (length (now state)) ⌝ }
+    requires { ⌜ Below (now firsts) (now widths) put (length (now state)) ⌝ }
+    requires { ⌜ length (now state) ≤ 65535 ⌝ }
+    ensures answer { λ r. ⌜ r ≡ stepOf (stops (marking (now (state .entry))) (ranged (now (starts .entry)) (now (sizes .entry)) taken) (ranged (now (firsts .entry)) (now (widths .entry)) put)) ⌝ }
+    ensures after { λ _. ⌜ now (state .exit) ≡ stepped (stops (marking (now (state .entry))) (ranged (now (starts .entry)) (now (sizes .entry)) taken) (ranged (now (firsts .entry)) (now (widths .entry)) put)) (setAll [] 1 (ranged (now (firsts .entry)) (now (widths .entry)) put) (setAll [] 0 (ranged (now (starts .entry)) (now (sizes .entry)) taken) (now (state .entry)))) (now (state .entry)) ⌝ }
+{
+    let answer = walking::test(&state[..], starts, sizes, taken, firsts, widths, put);
+    let Step::Goes = answer else {
+        return answer;
+    };
+    walking::set_ranges(starts, sizes, taken, 0, state);
+    walking::set_ranges(firsts, widths, put, 1, state);
+    answer
+}
+
+// One step of the unfolded net: the lists of the unfolded event that a number names, and then the step over them.
 fn step_at<'a>(
     table: &'a [u8],
     markers: &'a [u32],
     users: &'a [u32],
     bases: &'a [u32],
-    e: usize,
-    at: usize,
-    weight: u32,
-    rest: u32,
+    own: Owner,
     state: &mut [u8],
 ) -> Step
-    requires { ⌜ Owned (now table) (now markers) (now users) (now bases) e at weight rest ⌝ }
-    requires { ⌜ length (now state) ≡ basic (netOf (now table)) .conditions ⌝ }
-    requires { ⌜ Lent (now state) ⌝ }
-    ensures answer { λ r. ⌜ r ≡ stepOf (stopping (basic (netOf (now (table .entry)))) (marking (now (state .entry))) (sum (size (netOf (now (table .entry)))) e + rest)) ⌝ }
-    ensures after { λ _. ⌜ now (state .exit) ≡ stepped (stopping (basic (netOf (now (table .entry)))) (marking (now (state .entry))) (sum (size (netOf (now (table .entry)))) e + rest)) (bytes (basic (netOf (now (table .entry))) .conditions) (fire (basic (netOf (now (table .entry)))) (marking (now (state .entry))) (sum (size (netOf (now (table .entry)))) e + rest))) (now (state .entry)) ⌝ }
+    requires { ⌜ Owned (now table) (now markers) (now users) (now bases) (own .event) (own .at) (own .weight) (own .rest) ⌝ }
+    requires { ⌜ (length (now state) ≡ basic (netOf (now table)) .conditions) × Lent (now state) ⌝ }
+    ensures answer { λ r. ⌜ r ≡ stepOf (stopping (basic (netOf (now (table .entry)))) (marking (now (state .entry))) (sum (size (netOf (now (table .entry)))) (own .event) + own .rest)) ⌝ }
+    ensures after { λ _. ⌜ now (state .exit) ≡ stepped (stopping (basic (netOf (now (table .entry)))) (marking (now (state .entry))) (sum (size (netOf (now (table .entry)))) (own .event) + own .rest)) (bytes (basic (netOf (now (table .entry))) .conditions) (fire (basic (netOf (now (table .entry)))) (marking (now (state .entry))) (sum (size (netOf (now (table .entry)))) (own .event) + own .rest))) (now (state .entry)) ⌝ }
 {
     let mut starts = [0u32; 512];
     let mut sizes = [0u32; 512];
@@ -45,10 +68,7 @@ fn step_at<'a>(
         markers,
         users,
         bases,
-        e,
-        at,
-        weight,
-        rest,
+        own,
         false,
         &mut starts,
         &mut sizes,
@@ -60,21 +80,12 @@ fn step_at<'a>(
         markers,
         users,
         bases,
-        e,
-        at,
-        weight,
-        rest,
+        own,
         true,
         &mut firsts,
         &mut widths,
     );
-    let answer = walking::test(&state[..], &starts, &sizes, taken, &firsts, &widths, put);
-    let Step::Goes = answer else {
-        return answer;
-    };
-    walking::set_ranges(&starts, &sizes, taken, 0, state);
-    walking::set_ranges(&firsts, &widths, put, 1, state);
-    answer
+    step_over(&starts, &sizes, taken, &firsts, &widths, put, state)
 }
 
 // The number of what stops a step.
@@ -142,16 +153,7 @@ pub fn unfolded_fire(table: &[u8], marking: &mut [u8], j: UnfoldedEvent) -> Judg
         return refusal::refused(10, 0);
     };
     let count = marking.len();
-    let step = step_at(
-        table,
-        &markers,
-        &users,
-        &bases,
-        e,
-        at,
-        weight,
-        rest,
-        marking,
-    );
+    let own = segments::own(e, at, weight, rest);
+    let step = step_at(table, &markers, &users, &bases, own, marking);
     answered(step, count)
 }

@@ -72,6 +72,7 @@ fn write_list(table: &[u8], j: UnfoldedEvent, post: bool, out: &mut [u16]) -> Ju
     let Found::At(e, at, rest, weight) = f else {
         return refusal::refused(10, 0);
     };
+    let own = segments::own(e, at, weight, rest);
     let mut starts = [0u32; 512];
     let mut sizes = [0u32; 512];
     let k = segments::ranges(
@@ -79,10 +80,7 @@ fn write_list(table: &[u8], j: UnfoldedEvent, post: bool, out: &mut [u16]) -> Ju
         &markers,
         &users,
         &bases,
-        e,
-        at,
-        weight,
-        rest,
+        own,
         post,
         &mut starts,
         &mut sizes,

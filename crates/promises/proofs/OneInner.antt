@@ -62,6 +62,7 @@ use Rattle.unfolding.proofs.owner.Reads as owner
 use Rattle.unfolding.proofs.colours_before.Reads as colours-before
 use Rattle.copies.proofs.write_copies.Reads as write-copies
 use Rattle.decided.proofs.decide.Reads as decide
+use Rattle.segments.proofs.own.Reads as own
 use Rattle.walking.proofs.test.Reads as ranges-test
 use Rattle.walking.proofs.set_ranges.Reads as set-ranges
 use Rattle.lines.proofs.goes_on.Reads as goes-on
@@ -235,6 +236,9 @@ write-copies-one κs a r q x y h g = h ∙ sym g
 
 pub decide-one : (κs : _) (a : _) (r q : _) (x y : _) → decide.Learnt κs a r x → decide.Learnt κs a q y → r ≡ q
 decide-one κs a r q x y h g = h ∙ sym g
+
+pub own-one : (κs : _) (a : _) (r q : _) (x y : _) → own.Learnt κs a r x → own.Learnt κs a q y → r ≡ q
+own-one κs a r q x y h g = h ∙ sym g
 
 pub ranges-test-one : (κs : _) (a : _) (r q : _) (x y : _) → ranges-test.Learnt κs a r x → ranges-test.Learnt κs a q y → r ≡ q
 ranges-test-one κs a r q x y h g = h ∙ sym g

@@ -22,7 +22,8 @@ use Rattle.tally.proofs.Events.{judged, list-read, list-inside, list-ascends}
 use Rattle.unfolding.specs.Numbers.{choicesOf}
 use Rattle.unfolding.proofs.Numbered.{origin-is}
 use Rattle.unfolding.proofs.Owners.{within-laid, before-few}
-use Rattle.segments.specs.Ranges.{ranged, chosenFrom, Choosing, eventAt, touching, added, Known, Owned, Ranges}
+use Rattle.segments.specs.Ranges.{ranged, chosenFrom, Choosing, eventAt, touching, added, Known, ownerOf, Owned, Ranges}
+use Rattle.segments.specs.declared.Owner.{Owner}
 use Rattle.segments.proofs.Places.{places-spread}
 use Rattle.segments.proofs.Chosen.{chosen-at}
 
@@ -110,3 +111,17 @@ module _ {s ms us bs : List ℕ} {e at weight rest : ℕ} (o : Owned s ms us bs 
         low = λ b t. added-low (netOf s) post e rest (o .event) (omega (arith, o .whole, o .below)) (o .laid .few-conditions) b (subst (λ (l : List ℕ). T (mem b l)) all t);
         few = omega (arith, o .laid .counted .marked .limits .few-conditions);
       }
+
+-- ---- an owner made of its parts
+
+module _ (s : List ℕ) where
+  pub owned-by : (ms us bs : List ℕ) (e at weight rest : ℕ) (own : Owner) → own ≡ ownerOf e at weight rest → Owned s ms us bs e at weight rest
+      → Owned s ms us bs (own .event) (own .at) (own .weight) (own .rest)
+  owned-by ms us bs e at weight rest own z o = subst (λ (x : Owner). Owned s ms us bs (x .event) (x .at) (x .weight) (x .rest)) (sym z) o
+
+  pub number-by : (e at weight rest : ℕ) (own : Owner) → own ≡ ownerOf e at weight rest → sum (size (netOf s)) (own .event) + own .rest ≡ sum (size (netOf s)) e + rest
+  number-by e at weight rest own z = ap (λ (x : Owner). sum (size (netOf s)) (x .event) + x .rest) z
+
+  pub ranges-by : (post : Bool) (e at weight rest : ℕ) (own : Owner) → own ≡ ownerOf e at weight rest → (starts sizes : List ℕ) (k : ℕ)
+      → Ranges (netOf s) post (sum (size (netOf s)) (own .event) + own .rest) starts sizes k → Ranges (netOf s) post (sum (size (netOf s)) e + rest) starts sizes k
+  ranges-by post e at weight rest own z starts sizes k r = subst (λ (j : ℕ). Ranges (netOf s) post j starts sizes k) (number-by e at weight rest own z) r

@@ -20,6 +20,7 @@ use Rattle.layout.specs.Colours.{flagged}
 use Rattle.layout.specs.Laid.{Marked, Laid, Sums}
 use Rattle.unfolding.specs.Numbers.{choicesOf}
 use Rattle.segments.specs.declared.Segment.{Segment}
+use Rattle.segments.specs.declared.Owner.{Owner}
 
 -- ---- ranges
 
@@ -105,6 +106,10 @@ pub record Known (s users bases marks uses chosen pre members : List ℕ) (post 
   pub places : Chosen (netOf s) e rest chosen
   pub reading : words pre ≡ netOf s .preconditions e
   pub listing : Members (listOf (netOf s) post e) members
+
+-- What the number of an unfolded event names, from its parts (01, Unfolding).
+abbrev pub ownerOf : ℕ → ℕ → ℕ → ℕ → Owner
+ownerOf event at weight rest = record { event = event; at = at; weight = weight; rest = rest }
 
 -- An event of a table that is laid out, with its record's offset, its number of colours and what is left of a number (01, Unfolding).
 pub record Owned (s ms us bases : List ℕ) (e at weight rest : ℕ) : Type 0 where

@@ -1,6 +1,7 @@
 // The lists of one unfolded event as ranges of numbers, at most two for each condition of the table, so that no list is kept number by
 // number.
 ghost use mathlib.Core.Path.{_≡_};
+ghost use mathlib.Core.List.{_++_};
 ghost use Prim.Native.Nat.{_+_, _*_, _≤_, _<_};
 ghost use lib.ListN.{length};
 ghost use Rattle.lists.specs.Lists.{count, sum, spread};
@@ -9,7 +10,7 @@ ghost use Rattle.records.specs.Records.{conditions};
 ghost use Rattle.model.specs.Numbering.{size};
 ghost use Rattle.table.specs.Decoded.{netOf};
 ghost use Rattle.tally.specs.Having.{oneAt};
-ghost use Rattle.segments.specs.Ranges.{ranged, within, aloneOf, joinedOf, choicesAt, chosenFrom, Choosing, eventAt, added, sizeIf, Known, Owned, Ranges};
+ghost use Rattle.segments.specs.Ranges.{ranged, within, ownerOf, aloneOf, joinedOf, choicesAt, chosenFrom, Choosing, eventAt, added, sizeIf, Known, Owned, Ranges};
 
 // The numbers that one condition of the table adds to a list: one range, then another.
 pub struct Segment {
@@ -17,6 +18,26 @@ pub struct Segment {
     pub size: u32,
     pub next: u32,
     pub more: u32,
+}
+
+// What the number of an unfolded event names: an event, where its record stands, how many colours it has, and which of them it is.
+pub struct Owner {
+    pub event: usize,
+    pub at: usize,
+    pub weight: u32,
+    pub rest: u32,
+}
+
+// What such a number names, from its parts.
+pub fn own(event: usize, at: usize, weight: u32, rest: u32) -> Owner
+    ensures { λ r. ⌜ r ≡ ownerOf event at weight rest ⌝ }
+{
+    Owner {
+        event,
+        at,
+        weight,
+        rest,
+    }
 }
 
 // How many choices condition b leaves to a colour: its markers, or one where it is ordinary.
@@ -116,13 +137,12 @@ fn segment_at<'a>(
     pre: &'a [u8],
     members: &'a [u32],
     post: bool,
-    e: usize,
-    rest: u32,
+    own: Owner,
     b: usize,
 ) -> Segment
-    requires { ⌜ Known (now table) (now users) (now bases) (now marks) (now uses) (now chosen) (now pre) (now members) post e rest ⌝ }
+    requires { ⌜ Known (now table) (now users) (now bases) (now marks) (now uses) (now chosen) (now pre) (now members) post (own .event) (own .rest) ⌝ }
     requires { ⌜ b < netOf (now table) .conditions ⌝ }
-    ensures { λ r. ⌜ within r ≡ added (netOf (now (table .entry))) post (eventAt (netOf (now (table .entry))) e rest) b ⌝ }
+    ensures { λ r. ⌜ within r ≡ added (netOf (now (table .entry))) post (eventAt (netOf (now (table .entry))) (own .event) (own .rest)) b ⌝ }
 {
     let base = tally::number(bases, b);
     if layout::is_persistent(table, b) {
@@ -138,6 +158,17 @@ fn segment_at<'a>(
     alone(base, size_if(true, members, b, 1))
 }
 
+// The segment of condition b, kept as the two ranges that follow those of the conditions before it.
+fn keep_segment(g: Segment, b: usize, starts: &mut [u32], sizes: &mut [u32])
+    requires { ⌜ (2 * b + 1 < length (now starts)) × (2 * b + 1 < length (now sizes)) ⌝ }
+    ensures { λ _. ⌜ ranged (now (starts .exit)) (now (sizes .exit)) (2 * (b + 1)) ≡ ranged (now (starts .entry)) (now (sizes .entry)) (2 * b) ++ within g ⌝ }
+{
+    starts[2 * b] = g.first;
+    sizes[2 * b] = g.size;
+    starts[2 * b + 1] = g.next;
+    sizes[2 * b + 1] = g.more;
+}
+
 // The segments of all conditions, as ranges two by two.
 fn lay<'a>(
     table: &'a [u8],
@@ -149,16 +180,14 @@ fn lay<'a>(
     pre: &'a [u8],
     members: &'a [u32],
     post: bool,
-    e: usize,
-    rest: u32,
+    own: Owner,
     starts: &mut [u32],
     sizes: &mut [u32],
 )
-    requires { ⌜ Known (now table) (now users) (now bases) (now marks) (now uses) (now chosen) (now pre) (now members) post e rest ⌝ }
+    requires { ⌜ Known (now table) (now users) (now bases) (now marks) (now uses) (now chosen) (now pre) (now members) post (own .event) (own .rest) ⌝ }
     requires { ⌜ conditions (now table) ≡ netOf (now table) .conditions ⌝ }
-    requires { ⌜ length (now starts) ≡ 512 ⌝ }
-    requires { ⌜ length (now sizes) ≡ 512 ⌝ }
-    ensures { λ r. ⌜ ranged (now (starts .exit)) (now (sizes .exit)) (2 * conditions (now (table .entry))) ≡ spread (added (netOf (now (table .entry))) post (eventAt (netOf (now (table .entry))) e rest)) (count 0 (conditions (now (table .entry)))) ⌝ }
+    requires { ⌜ (length (now starts) ≡ 512) × (length (now sizes) ≡ 512) ⌝ }
+    ensures { λ _. ⌜ ranged (now (starts .exit)) (now (sizes .exit)) (2 * conditions (now (table .entry))) ≡ spread (added (netOf (now (table .entry))) post (eventAt (netOf (now (table .entry))) (own .event) (own .rest))) (count 0 (conditions (now (table .entry)))) ⌝ }
 {
     let n = words::word(table, 0) as usize;
     let mut b: usize = 0;
@@ -173,45 +202,37 @@ fn lay<'a>(
             pre,
             members,
             post,
-            e,
-            rest,
+            own,
             b,
         );
-        starts[2 * b] = g.first;
-        sizes[2 * b] = g.size;
-        starts[2 * b + 1] = g.next;
-        sizes[2 * b + 1] = g.more;
+        keep_segment(g, b, starts, sizes);
         b = b + 1;
     }
 }
 
-// One list of an unfolded event of event e, as ranges; how many.
+// One list of an unfolded event, as ranges; how many.
 pub fn ranges<'a>(
     table: &'a [u8],
     markers: &'a [u32],
     users: &'a [u32],
     bases: &'a [u32],
-    e: usize,
-    at: usize,
-    weight: u32,
-    rest: u32,
+    own: Owner,
     post: bool,
     starts: &mut [u32],
     sizes: &mut [u32],
 ) -> usize
-    requires { ⌜ Owned (now table) (now markers) (now users) (now bases) e at weight rest ⌝ }
-    requires { ⌜ length (now starts) ≡ 512 ⌝ }
-    requires { ⌜ length (now sizes) ≡ 512 ⌝ }
-    ensures { λ r. ⌜ Ranges (netOf (now (table .entry))) post (sum (size (netOf (now (table .entry)))) e + rest) (now (starts .exit)) (now (sizes .exit)) r ⌝ }
+    requires { ⌜ Owned (now table) (now markers) (now users) (now bases) (own .event) (own .at) (own .weight) (own .rest) ⌝ }
+    requires { ⌜ (length (now starts) ≡ 512) × (length (now sizes) ≡ 512) ⌝ }
+    ensures { λ r. ⌜ Ranges (netOf (now (table .entry))) post (sum (size (netOf (now (table .entry)))) (own .event) + own .rest) (now (starts .exit)) (now (sizes .exit)) r ⌝ }
 {
     let mut marks = [0u32; 256];
     let mut uses = [0u32; 256];
     let mut chosen = [0u32; 256];
-    tally::tally(table, e, true, 1, &mut marks);
-    tally::tally(table, e, false, 0, &mut uses);
-    let pre = tally::list_at(table, at, false);
-    choose(table, markers, pre, weight, rest, &mut chosen);
-    let members = tally::members(tally::list_at(table, at, post));
+    tally::tally(table, own.event, true, 1, &mut marks);
+    tally::tally(table, own.event, false, 0, &mut uses);
+    let pre = tally::list_at(table, own.at, false);
+    choose(table, markers, pre, own.weight, own.rest, &mut chosen);
+    let members = tally::members(tally::list_at(table, own.at, post));
     lay(
         table,
         users,
@@ -222,8 +243,7 @@ pub fn ranges<'a>(
         pre,
         &members,
         post,
-        e,
-        rest,
+        own,
         starts,
         sizes,
     );
