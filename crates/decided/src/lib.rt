@@ -49,30 +49,14 @@ pub fn choose<'a>(
         return;
     }
     let b = words::word(pre, 0) as usize;
+    let later = &pre[2..];
     if layout::is_persistent(table, b) {
         let below = weight / tally::number(markers, b);
         keep(table, events, b, rest / below, places, kept);
-        choose(
-            table,
-            events,
-            markers,
-            &pre[2..],
-            below,
-            rest % below,
-            places,
-            kept,
-        );
+        let left = rest % below;
+        choose(table, events, markers, later, below, left, places, kept);
     } else {
-        choose(
-            table,
-            events,
-            markers,
-            &pre[2..],
-            weight,
-            rest,
-            places,
-            kept,
-        );
+        choose(table, events, markers, later, weight, rest, places, kept);
     }
 }
 
