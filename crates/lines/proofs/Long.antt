@@ -11,7 +11,7 @@ use Rattle.model.specs.Lent.{marking}
 use Rattle.model.specs.Across.{mostUnfolded}
 use Rattle.listing.specs.Text.{commas, listed, holding, endWords, startLine, stepLine, refusedLine}
 use Rattle.listing.specs.Calls.{heldIn, firstIn, nextOf, firstPiece, morePiece}
-use Rattle.listing.proofs.Decimal.{five, twenty}
+use Rattle.spelling.proofs.Decimal.{five, twenty}
 use Rattle.listing.proofs.Held.{holding-both, commas-both, one-holds, one-fails}
 use Rattle.listing.proofs.Lines.{first-number, first-dash, list-parts}
 use Rattle.lines.specs.Needs.{mostBytes}

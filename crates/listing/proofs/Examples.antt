@@ -17,7 +17,8 @@ use Rattle.table.specs.Walk.{eventsFrom, judgeOf, offsetFrom}
 use Rattle.table.specs.Decoded.{netOf}
 use Rattle.runs.specs.Runs.{stepsIn, readAnswer}
 use Rattle.listing.specs.Calls.{filesOf}
-use Rattle.listing.specs.Text.{decimal, commas, listed, holding, startLine, stepLine, endLine}
+use Rattle.spelling.specs.Decimal.{decimal}
+use Rattle.listing.specs.Text.{commas, listed, holding, startLine, stepLine, endLine}
 use Rattle.listing.specs.Whole.{stepLines, linesOf, liftedLines, judgedLines, listingOf}
 
 -- What is written for net A and the run 0, 1, 2, 1 (01, Nets to test with: Listing).

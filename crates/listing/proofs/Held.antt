@@ -13,7 +13,8 @@ use Rattle.lists.specs.Lists.{keep, count}
 use Rattle.model.specs.Net.{Marking}
 use Rattle.model.specs.Lent.{marking}
 use Rattle.lists.proofs.Positions.{spread-append, count-split}
-use Rattle.listing.specs.Text.{decimal, comma, commas, holding}
+use Rattle.spelling.specs.Decimal.{decimal}
+use Rattle.listing.specs.Text.{comma, commas, holding}
 use Rattle.listing.specs.Calls.{heldIn, firstOr, firstIn}
 
 -- A condition of lent bytes holds where its byte is 1.

@@ -1,5 +1,3 @@
-pub mod Texts
-pub mod Decimal
 pub mod Held
 pub mod Lines
 pub mod Answers

@@ -10,9 +10,10 @@ use borrow.Author.Tests.{lt-ltb, le-ltb}
 use lib.ListN.{length, length-append}
 use Rattle.model.specs.Net.{Marking}
 use Rattle.model.specs.Lent.{marking}
-use Rattle.listing.specs.Text.{decimal, dash, space, newline, commas, listed, holding, stepLine}
+use Rattle.spelling.specs.Decimal.{decimal}
+use Rattle.listing.specs.Text.{dash, space, newline, commas, listed, holding, stepLine}
 use Rattle.listing.specs.Calls.{heldIn, firstIn, nextOf, firstPiece, morePiece}
-use Rattle.listing.proofs.Decimal.{twenty}
+use Rattle.spelling.proofs.Decimal.{twenty}
 use Rattle.listing.proofs.Held.{after-first, first-then, none-left, holding-both, commas-both, one-holds, one-fails}
 
 -- What a lent marking holds is its first, and what holds after it.

@@ -1,6 +1,5 @@
 -- The definitions, in reading order: Text is how the listing is written, Calls what the contracts of the calls say, Whole the listing
--- of two files, Puts what stands below the calls.
+-- of two files.
 pub mod Text
 pub mod Calls
 pub mod Whole
-pub mod Puts

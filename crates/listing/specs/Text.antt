@@ -1,21 +1,11 @@
 -- The text of a listing as bytes: numbers, lists and lines.
-use mathlib.Core.Bool.{cond}
 use mathlib.Core.List.{List, [], _∷_, _++_}
-use Prim.Native.Nat.{ℕ, zero, suc, _+_, _/_, _%_}
-use lib.Dec.{ltb}
+use Prim.Native.Nat.{ℕ}
 use Rattle.lists.specs.Lists.{keep, count, spread}
 use Rattle.model.specs.Net.{Marking}
+use Rattle.spelling.specs.Decimal.{decimal}
 
 -- ---- numbers and lists
-
--- The digits of a number, k of them at most, the highest first (01, Nets to test with: Listing).
-abbrev pub digits : ℕ → ℕ → List ℕ
-digits zero n = []
-digits (suc k) n = cond (ltb n 10) ((48 + n) ∷ []) (digits k (n / 10) ++ ((48 + n % 10) ∷ []))
-
--- A number in decimal; n + 1 digits are always enough (01, Nets to test with: Listing).
-unfoldable pub decimal : ℕ → List ℕ
-decimal n = digits (suc n) n
 
 -- The bytes of the comma, the dash, the space and the newline (01, Nets to test with: Listing).
 abbrev pub comma : ℕ

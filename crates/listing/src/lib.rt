@@ -1,5 +1,4 @@
-// The text of a listing, written into lent bytes piece by piece: a piece put into too few bytes is measured, since every place that
-// they have no room for is left out.
+// The text of a listing, written into lent bytes piece by piece: a piece is first put into too few bytes, which measures it.
 use refusal::Judged;
 ghost use mathlib.Core.Path.{_≡_};
 ghost use mathlib.Core.List.{[], _∷_, _++_};
@@ -9,8 +8,9 @@ ghost use Rattle.model.specs.Lent.{marking};
 ghost use Rattle.model.specs.Across.{mostUnfolded};
 ghost use Rattle.refusal.specs.Answer.{written};
 ghost use Rattle.runs.specs.Runs.{runOf};
-ghost use Rattle.listing.specs.Text.{space, newline, decimal, commas, listed, holding, endWords, startLine, stepLine, refusedLine};
-ghost use Rattle.listing.specs.Puts.{farthest, Put};
+ghost use Rattle.spelling.specs.Decimal.{decimal};
+ghost use Rattle.spelling.specs.Puts.{farthest, Put};
+ghost use Rattle.listing.specs.Text.{space, newline, commas, listed, holding, endWords, startLine, stepLine, refusedLine};
 ghost use Rattle.listing.specs.Calls.{heldIn, firstIn, nextOf, firstPiece, textOf, pieceOf, filesOf};
 
 // What can be written at once: the line of the start, of a step, or of a refusal; the begin of the line of the unfolded end; or
@@ -35,69 +35,14 @@ const MOST_CONDITIONS: usize = 65535;
 // How many conditions a further piece of a list is taken from.
 const PIECE_SIZE: usize = 128;
 
-// One byte put at a place.
-fn put(out: &mut [u8], at: usize, byte: u8) -> usize
-    requires { ⌜ at < farthest ⌝ }
-    ensures { λ r. ⌜ Put (now (out .entry)) at (byte ∷ []) r (now (out .exit)) ⌝ }
-{
-    if out.len() <= at {
-        return at + 1;
-    }
-    out[at] = byte;
-    at + 1
-}
-
-// How many digits a number has.
-fn width(n: usize) -> usize
-    ensures { λ r. ⌜ r ≡ length (decimal n) ⌝ }
-{
-    let mut count: usize = 1;
-    let mut left = n;
-    while 9 < left {
-        left = left / 10;
-        count = count + 1;
-    }
-    count
-}
-
-// A number put at a place, its last digit first.
-fn put_number(out: &mut [u8], at: usize, n: usize) -> usize
-    requires { ⌜ at + 20 ≤ farthest ⌝ }
-    ensures { λ r. ⌜ Put (now (out .entry)) at (decimal n) r (now (out .exit)) ⌝ }
-{
-    let end = at + width(n);
-    let mut last = end - 1;
-    let mut left = n;
-    while 9 < left {
-        put(out, last, 48 + (left % 10) as u8);
-        last = last - 1;
-        left = left / 10;
-    }
-    put(out, last, 48 + left as u8);
-    end
-}
-
-// Bytes put at a place.
-fn put_text(out: &mut [u8], at: usize, text: &[u8]) -> usize
-    requires { ⌜ at + length (now text) ≤ farthest ⌝ }
-    ensures { λ r. ⌜ Put (now (out .entry)) at (now (text .entry)) r (now (out .exit)) ⌝ }
-{
-    let mut k: usize = 0;
-    while k < text.len() {
-        put(out, at + k, text[k]);
-        k = k + 1;
-    }
-    at + k
-}
-
 // One condition of a marking put at a place with a comma before it, if it holds.
 fn put_held(out: &mut [u8], at: usize, state: &[u8], b: usize) -> usize
     requires { ⌜ (b < length (now state)) × (at + 21 ≤ farthest) ⌝ }
     ensures { λ r. ⌜ Put (now (out .entry)) at (commas (holding (marking (now (state .entry))) b 1)) r (now (out .exit)) ⌝ }
 {
     if state[b] == 1 {
-        let next = put(out, at, b',');
-        return put_number(out, next, b);
+        let next = spelling::put(out, at, b',');
+        return spelling::put_number(out, next, b);
     }
     at
 }
@@ -149,9 +94,9 @@ fn put_first(out: &mut [u8], at: usize, state: &[u8], first: usize) -> usize
     ensures { λ r. ⌜ Put (now (out .entry)) at (firstPiece (heldIn (now (state .entry)))) r (now (out .exit)) ⌝ }
 {
     if first < state.len() {
-        return put_number(out, at, first);
+        return spelling::put_number(out, at, first);
     }
-    put(out, at, b'-')
+    spelling::put(out, at, b'-')
 }
 
 // A list of the conditions that hold in a marking put at a place, and the newline after it.
@@ -162,7 +107,7 @@ fn put_list(out: &mut [u8], at: usize, state: &[u8]) -> usize
     let first = first_held(state);
     let next = put_first(out, at, state, first);
     let end = put_more(out, next, state, first + 1, state.len());
-    put(out, end, b'\n')
+    spelling::put(out, end, b'\n')
 }
 
 // The line of the start.
@@ -170,7 +115,7 @@ fn put_start(out: &mut [u8], state: &[u8]) -> usize
     requires { ⌜ length (now state) ≤ mostUnfolded ⌝ }
     ensures { λ r. ⌜ Put (now (out .entry)) 0 (startLine (heldIn (now (state .entry)))) r (now (out .exit)) ⌝ }
 {
-    let next = put_text(out, 0, b"start ");
+    let next = spelling::put_text(out, 0, b"start ");
     put_list(out, next, state)
 }
 
@@ -179,8 +124,8 @@ fn put_spaced(out: &mut [u8], at: usize, n: usize) -> usize
     requires { ⌜ at + 21 ≤ farthest ⌝ }
     ensures { λ r. ⌜ Put (now (out .entry)) at (decimal n ++ (space ∷ [])) r (now (out .exit)) ⌝ }
 {
-    let next = put_number(out, at, n);
-    put(out, next, b' ')
+    let next = spelling::put_number(out, at, n);
+    spelling::put(out, next, b' ')
 }
 
 // The line of a step.
@@ -198,7 +143,7 @@ fn put_step(out: &mut [u8], step: usize, event: usize, unfolded: usize, state: &
 fn put_end(out: &mut [u8], state: &[u8]) -> usize
     ensures { λ r. ⌜ Put (now (out .entry)) 0 (endWords ++ firstPiece (heldIn (now (state .entry)))) r (now (out .exit)) ⌝ }
 {
-    let next = put_text(out, 0, b"end unfolded ");
+    let next = spelling::put_text(out, 0, b"end unfolded ");
     let first = first_held(state);
     put_first(out, next, state, first)
 }
@@ -207,11 +152,11 @@ fn put_end(out: &mut [u8], state: &[u8]) -> usize
 fn put_refused(out: &mut [u8], number: usize, place: usize) -> usize
     ensures { λ r. ⌜ Put (now (out .entry)) 0 (refusedLine number place) r (now (out .exit)) ⌝ }
 {
-    let first = put_text(out, 0, b"refused ");
-    let second = put_number(out, first, number);
-    let third = put_text(out, second, b" at ");
-    let end = put_number(out, third, place);
-    put(out, end, b'\n')
+    let first = spelling::put_text(out, 0, b"refused ");
+    let second = spelling::put_number(out, first, number);
+    let third = spelling::put_text(out, second, b" at ");
+    let end = spelling::put_number(out, third, place);
+    spelling::put(out, end, b'\n')
 }
 
 // A piece put at the first byte.

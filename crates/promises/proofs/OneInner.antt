@@ -65,6 +65,9 @@ use Rattle.decided.proofs.decide.Reads as decide
 use Rattle.segments.proofs.own.Reads as own
 use Rattle.walking.proofs.test.Reads as ranges-test
 use Rattle.walking.proofs.set_ranges.Reads as set-ranges
+use Rattle.spelling.proofs.put.Reads as put-byte
+use Rattle.spelling.proofs.put_number.Reads as put-number
+use Rattle.spelling.proofs.put_text.Reads as put-text
 use Rattle.lines.proofs.goes_on.Reads as goes-on
 use Rattle.lines.proofs.write.Reads as write-place
 use Rattle.lines.proofs.write_refused.Reads as write-refused
@@ -245,6 +248,17 @@ ranges-test-one κs a r q x y h g = h ∙ sym g
 
 pub set-ranges-one : (κs : _) (a : _) (r q : _) (x y : _) → set-ranges.Learnt κs a r x → set-ranges.Learnt κs a q y → now (x .1 .1 .1 .1 .0) ≡ now (y .1 .1 .1 .1 .0)
 set-ranges-one κs a r q x y h g = h ∙ sym g
+
+-- ---- bytes, numbers and texts put at a place
+
+pub put-byte-one : (κs : _) (a : _) (r q : _) (x y : _) → put-byte.Learnt κs a r x → put-byte.Learnt κs a q y → (r ≡ q) × (now (x .0) ≡ now (y .0))
+put-byte-one κs a r q x y h g = (h .told ∙ sym (g .told), h .stored ∙ sym (g .stored))
+
+pub put-number-one : (κs : _) (a : _) (r q : _) (x y : _) → put-number.Learnt κs a r x → put-number.Learnt κs a q y → (r ≡ q) × (now (x .0) ≡ now (y .0))
+put-number-one κs a r q x y h g = (h .told ∙ sym (g .told), h .stored ∙ sym (g .stored))
+
+pub put-text-one : (κs : _) (a : _) (r q : _) (x y : _) → put-text.Learnt κs a r x → put-text.Learnt κs a q y → (r ≡ q) × (now (x .0) ≡ now (y .0))
+put-text-one κs a r q x y h g = (h .told ∙ sym (g .told), h .stored ∙ sym (g .stored))
 
 -- ---- the pieces of a listing
 

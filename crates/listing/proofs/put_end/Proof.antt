@@ -1,6 +1,6 @@
 -- The words, then the first piece.
 use borrow.Author.Needs.{needs}
-use Rattle.listing.proofs.Texts.{both}
+use Rattle.spelling.proofs.Texts.{both}
 use Rattle.listing.proofs.put_end.Statement.{statement}
 use Rattle.listing.proofs.put_end.Tie as tie
 

@@ -1,6 +1,6 @@
 -- The first number is put, or the dash.
 use borrow.Author.Needs.{needs}
-use Rattle.listing.proofs.Texts.{same-text}
+use Rattle.spelling.proofs.Texts.{same-text}
 use Rattle.listing.proofs.Lines.{first-number, first-dash}
 use Rattle.listing.proofs.put_first.Statement.{statement}
 use Rattle.listing.proofs.put_first.Tie as tie

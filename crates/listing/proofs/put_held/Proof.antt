@@ -2,7 +2,7 @@
 use mathlib.Core.Path.{sym}
 use borrow.Author.Needs.{needs}
 use Rattle.model.specs.Lent.{marking}
-use Rattle.listing.proofs.Texts.{both, same-text, nothing-put}
+use Rattle.spelling.proofs.Texts.{both, same-text, nothing-put}
 use Rattle.listing.proofs.Held.{byte-holds, byte-fails, one-holds, one-fails}
 use Rattle.listing.proofs.put_held.Statement.{statement}
 use Rattle.listing.proofs.put_held.Tie as tie

@@ -4,7 +4,7 @@ use native.Mathlib.Omega.{arith}
 use borrow.Author.Needs.{needs}
 use lib.ListN.{length}
 use Rattle.model.specs.Lent.{marking}
-use Rattle.listing.proofs.Texts.{both, same-text}
+use Rattle.spelling.proofs.Texts.{both, same-text}
 use Rattle.listing.proofs.Held.{first-below}
 use Rattle.listing.proofs.Lines.{list-parts, first-short, more-short}
 use Rattle.listing.proofs.put_list.Statement.{statement}

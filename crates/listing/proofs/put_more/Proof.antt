@@ -8,8 +8,8 @@ use lib.ListN.{length}
 use lib.Seq.{sets}
 use Rattle.model.specs.Lent.{marking}
 use Rattle.listing.specs.Text.{commas, holding}
-use Rattle.listing.specs.Puts.{farthest}
-use Rattle.listing.proofs.Texts.{put-long, goes-on}
+use Rattle.spelling.specs.Puts.{farthest}
+use Rattle.spelling.proofs.Texts.{put-long, goes-on}
 use Rattle.listing.proofs.Held.{first-apart}
 use Rattle.listing.proofs.Lines.{one-short, no-more}
 use Rattle.listing.proofs.put_more.Statement.{statement}

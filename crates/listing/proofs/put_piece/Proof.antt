@@ -4,7 +4,7 @@ use mathlib.Core.Path.{sym, ap}
 use borrow.Author.Needs.{needs}
 use Rattle.listing.specs.declared.Piece.{Piece}
 use Rattle.listing.specs.Calls.{textOf}
-use Rattle.listing.proofs.Texts.{same-text}
+use Rattle.spelling.proofs.Texts.{same-text}
 use Rattle.listing.proofs.Answers.{more-is}
 use Rattle.listing.proofs.put_piece.Statement.{statement}
 use Rattle.listing.proofs.put_piece.Tie as tie

@@ -2,8 +2,8 @@
 use native.Mathlib.Omega.{arith}
 use borrow.Author.Needs.{needs}
 use Rattle.listing.specs.Text.{refusedLine}
-use Rattle.listing.proofs.Texts.{both}
-use Rattle.listing.proofs.Decimal.{twenty}
+use Rattle.spelling.proofs.Texts.{both}
+use Rattle.spelling.proofs.Decimal.{twenty}
 use Rattle.listing.proofs.put_refused.Statement.{statement}
 use Rattle.listing.proofs.put_refused.Tie as tie
 

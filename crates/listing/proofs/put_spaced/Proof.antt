@@ -1,8 +1,8 @@
 -- The number, then the space.
 use native.Mathlib.Omega.{arith}
 use borrow.Author.Needs.{needs}
-use Rattle.listing.proofs.Texts.{both}
-use Rattle.listing.proofs.Decimal.{twenty}
+use Rattle.spelling.proofs.Texts.{both}
+use Rattle.spelling.proofs.Decimal.{twenty}
 use Rattle.listing.proofs.put_spaced.Statement.{statement}
 use Rattle.listing.proofs.put_spaced.Tie as tie
 

@@ -2,7 +2,7 @@
 use native.Mathlib.Omega.{arith}
 use borrow.Author.Needs.{needs}
 use Rattle.listing.specs.Text.{startLine}
-use Rattle.listing.proofs.Texts.{both}
+use Rattle.spelling.proofs.Texts.{both}
 use Rattle.listing.proofs.put_start.Statement.{statement}
 use Rattle.listing.proofs.put_start.Tie as tie
 

@@ -2,7 +2,7 @@
 use native.Mathlib.Omega.{arith}
 use borrow.Author.Needs.{needs}
 use Rattle.listing.specs.Calls.{heldIn}
-use Rattle.listing.proofs.Texts.{both, same-text}
+use Rattle.spelling.proofs.Texts.{both, same-text}
 use Rattle.listing.proofs.Lines.{spaced-short, step-parts}
 use Rattle.listing.proofs.put_step.Statement.{statement}
 use Rattle.listing.proofs.put_step.Tie as tie

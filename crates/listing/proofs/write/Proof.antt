@@ -4,7 +4,7 @@ use mathlib.Core.Path.{_≡_, sym, _∙_}
 use borrow.Author.Needs.{needs}
 use lib.ListN.{length}
 use Rattle.listing.specs.Calls.{textOf}
-use Rattle.listing.proofs.Texts.{put-whole}
+use Rattle.spelling.proofs.Texts.{put-whole}
 use Rattle.listing.proofs.Answers.{piece-long, piece-short, piece-fits}
 use Rattle.listing.proofs.write.Statement.{statement}
 use Rattle.listing.proofs.write.Tie as tie

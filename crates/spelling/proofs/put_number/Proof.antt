@@ -5,11 +5,11 @@ use mathlib.Core.Path.{_≡_, refl, _∙_}
 use borrow.Author.Needs.{needs}
 use lib.ListN.{length}
 use lib.Seq.{sets}
-use Rattle.listing.specs.Text.{decimal}
-use Rattle.listing.proofs.Texts.{put-long}
-use Rattle.listing.proofs.Decimal.{twenty, long, digit-put, digit-left}
-use Rattle.listing.proofs.put_number.Statement.{statement}
-use Rattle.listing.proofs.put_number.Tie as tie
+use Rattle.spelling.specs.Decimal.{decimal}
+use Rattle.spelling.proofs.Texts.{put-long}
+use Rattle.spelling.proofs.Decimal.{twenty, long, digit-put, digit-left}
+use Rattle.spelling.proofs.put_number.Statement.{statement}
+use Rattle.spelling.proofs.put_number.Tie as tie
 
 abbrev Inv-loop : tie.InvT-loop
 Inv-loop out₀ at n end last₀ left₀ out last left =

@@ -7,7 +7,7 @@ use mathlib.Core.List.{List, [], _∷_, _++_}
 use lib.ListN.{length, length-append, getD, drop, set}
 use lib.Seq.{sets, length-sets, set-comm, set-out}
 use Rattle.lists.proofs.Stored.{stored-whole, store-next, store-end, store-both}
-use Rattle.listing.specs.Puts.{Put}
+use Rattle.spelling.specs.Puts.{Put}
 
 -- A last byte may be stored before those in front of it.
 pub sets-last : (x out : List ℕ) (b at : ℕ) → sets out at (x ++ (b ∷ [])) ≡ sets (set out (at + length x) b) at x

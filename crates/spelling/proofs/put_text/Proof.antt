@@ -6,9 +6,9 @@ use mathlib.Core.Path.{_≡_, refl, sym, _∙_}
 use borrow.Author.Needs.{needs}
 use lib.Seq.{sets}
 use lib.ListN.{length, drop}
-use Rattle.listing.proofs.Texts.{put-long, next-byte, no-byte}
-use Rattle.listing.proofs.put_text.Statement.{statement}
-use Rattle.listing.proofs.put_text.Tie as tie
+use Rattle.spelling.proofs.Texts.{put-long, next-byte, no-byte}
+use Rattle.spelling.proofs.put_text.Statement.{statement}
+use Rattle.spelling.proofs.put_text.Tie as tie
 
 abbrev Inv-loop : tie.InvT-loop
 Inv-loop out₀ at text k₀ out k =

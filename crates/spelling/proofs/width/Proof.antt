@@ -4,10 +4,10 @@ use native.Mathlib.Omega.{arith}
 use mathlib.Core.Path.{_≡_}
 use borrow.Author.Needs.{needs}
 use lib.ListN.{length}
-use Rattle.listing.specs.Text.{decimal}
-use Rattle.listing.proofs.Decimal.{one-digit-long, last-digit-long, twenty}
-use Rattle.listing.proofs.width.Statement.{statement}
-use Rattle.listing.proofs.width.Tie as tie
+use Rattle.spelling.specs.Decimal.{decimal}
+use Rattle.spelling.proofs.Decimal.{one-digit-long, last-digit-long, twenty}
+use Rattle.spelling.proofs.width.Statement.{statement}
+use Rattle.spelling.proofs.width.Tie as tie
 
 abbrev Inv-loop : tie.InvT-loop
 Inv-loop n count₀ left₀ count left = count + length (decimal left) ≡ length (decimal n) + 1

@@ -1,4 +1,4 @@
--- What the inner functions need and leave: text put at a place of lent bytes, as far as they reach.
+-- What the functions need and leave: text put at a place of lent bytes, as far as they reach.
 use mathlib.Core.Path.{_≡_}
 use mathlib.Core.List.{List}
 use Prim.Native.Nat.{ℕ, _+_}

@@ -1,8 +1,8 @@
 -- One byte is put where the output has room for it.
 use borrow.Author.Needs.{needs}
-use Rattle.listing.proofs.Texts.{byte-out}
-use Rattle.listing.proofs.put.Statement.{statement}
-use Rattle.listing.proofs.put.Tie as tie
+use Rattle.spelling.proofs.Texts.{byte-out}
+use Rattle.spelling.proofs.put.Statement.{statement}
+use Rattle.spelling.proofs.put.Tie as tie
 
 returns : tie.Need-returns
 returns c = byte-out _ _ _ (c .if1 .taken)

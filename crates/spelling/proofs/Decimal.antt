@@ -9,9 +9,9 @@ use borrow.Author.Tests.{lt-ltb, le-ltb, ltb-false}
 use lib.Dec.{ltb}
 use lib.ListN.{length, length-append}
 use lib.Seq.{sets}
-use Rattle.listing.specs.Text.{digits, decimal}
-use Rattle.listing.specs.Puts.{Put}
-use Rattle.listing.proofs.Texts.{sets-last}
+use Rattle.spelling.specs.Decimal.{digits, decimal}
+use Rattle.spelling.specs.Puts.{Put}
+use Rattle.spelling.proofs.Texts.{sets-last}
 
 -- As many digits as a number counts are enough, and more change nothing.
 enough : (j k n : ℕ) → n < j → n < k → digits j n ≡ digits k n
