@@ -3,5 +3,5 @@ pub mod Long
 pub mod Writing
 pub mod Whole
 pub mod Rest
-pub mod Opening
+pub mod Ready
 pub mod Listing

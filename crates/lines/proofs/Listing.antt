@@ -28,11 +28,11 @@ use Rattle.ends.specs.Calls.{unfoldedReplayOf}
 use Rattle.listing.specs.Text.{refusedLine}
 use Rattle.listing.specs.Calls.{filesOf}
 use Rattle.listing.specs.Whole.{linesOf, liftedLines, judgedLines, listingOf}
-use Rattle.lines.specs.declared.Opened.{Opened}
+use Rattle.opening.specs.declared.Opened.{Opened}
 use Rattle.lines.specs.declared.Place.the-variants.{Start}
 use Rattle.lines.specs.Places.{restOf}
-use Rattle.lines.specs.Opening.{liftedRun, startBytes, endBytes, reachOf, openOf, Opens}
-use Rattle.lines.proofs.Opening.{files-fine}
+use Rattle.opening.specs.Opening.{liftedRun, startBytes, endBytes, reachOf, openOf, Opens}
+use Rattle.opening.proofs.Opening.{files-fine}
 use Rattle.lines.proofs.Whole.{start-text}
 
 -- What a lift that is a run tells of the run and of the limits.

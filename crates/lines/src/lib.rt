@@ -1,17 +1,16 @@
-// A listing from its two files to its last byte: the files are opened once, and then its text is written piece by piece.
+// A listing to its last byte, once its two files are opened: its text is written piece by piece.
 use listing::Piece;
 use refusal::Judged;
 ghost use mathlib.Core.Path.{_≡_};
 ghost use mathlib.Core.List.{[], _∷_};
-ghost use Prim.Native.Nat.{_+_, _≤_, _<_};
-ghost use lib.ListN.{length, getD, replicate};
-ghost use Rattle.model.specs.Across.{mostSteps, mostUnfolded};
+ghost use Prim.Native.Nat.{_≤_, _<_};
+ghost use lib.ListN.{length, getD};
+ghost use Rattle.model.specs.Across.{mostUnfolded};
 ghost use Rattle.table.specs.Decoded.{netOf};
 ghost use Rattle.refusal.specs.Answer.{numberOf, placeOf};
 ghost use Rattle.listing.specs.Text.{newline, refusedLine};
 ghost use Rattle.listing.specs.Calls.{textOf};
 ghost use Rattle.lines.specs.Places.{stepFrom, moreFrom, nextAt, goesOn, fired, shownAt, stepText, textAt, writtenAt};
-ghost use Rattle.lines.specs.Opening.{Empty, Reaches, SetsUp, Opens};
 ghost use Rattle.lines.specs.Needs.{mostBytes, InRun, Steady, Ready, Puts};
 
 // Where a listing stands: at the start's line, at the line of a step, at the begin of the unfolded end's line, at more of its list
@@ -29,14 +28,6 @@ pub enum Place {
 pub struct Written {
     pub count: usize,
     pub next: Place,
-}
-
-// What the two files are opened to: the number of steps or the refusal, then how many events, conditions and unfolded conditions.
-pub struct Opened {
-    pub answer: Judged,
-    pub events: usize,
-    pub conditions: usize,
-    pub unfolded: usize,
 }
 
 // There is more to write.
@@ -203,76 +194,4 @@ pub fn write_refused(answer: Judged, out: &mut [u8]) -> usize
 {
     let number = refusal::number_of(answer) as usize;
     put(Piece::Refused(number, refusal::place_of(answer)), b"", out)
-}
-
-// A run lifted, and the unfolded marking that its lift ends in; fine: the number of unfolded conditions.
-fn reach_end<'a>(table: &'a [u8], run: &'a [u16], lifted: &mut [u16], end: &mut [u8]) -> Judged
-    requires { ⌜ (length (now lifted) ≡ mostSteps) × (length (now end) ≡ mostUnfolded) ⌝ }
-    ensures { λ r. ⌜ Reaches (now (table .entry)) (now (run .entry)) r (now (lifted .exit)) (now (end .exit)) ⌝ }
-{
-    let answer = lift::lift(table, run, lifted);
-    let Judged::Fine(count) = answer else {
-        return answer;
-    };
-    ends::unfolded_replay(table, &lifted[0..count], end)
-}
-
-// The index of a table's events filled, and its start put into bytes that are all 0; fine: the number of events.
-fn set_up(table: &[u8], offsets: &mut [usize], marking: &mut [u8]) -> Judged
-    requires { ⌜ (256 ≤ length (now offsets)) × (now marking ≡ replicate 256 0) ⌝ }
-    ensures { λ r. ⌜ SetsUp (now (table .entry)) r (now (offsets .exit)) (now (marking .exit)) ⌝ }
-{
-    let judged = table::judge(table);
-    let Judged::Fine(events) = judged else {
-        return judged;
-    };
-    played::fill(table, events, offsets);
-    played::start(table, events, marking);
-    Judged::Fine(events)
-}
-
-// A refusal, with nothing opened.
-fn refused(answer: Judged) -> Opened
-    ensures { λ r. ⌜ r .answer ≡ answer ⌝ }
-{
-    Opened {
-        answer,
-        events: 0,
-        conditions: 0,
-        unfolded: 0,
-    }
-}
-
-// The two files judged in order, the run lifted, the unfolded end reached, the index filled and the marking put to the start.
-pub fn open_files<'a>(
-    net: &'a [u8],
-    run: &'a [u8],
-    steps: &mut [u16],
-    lifted: &mut [u16],
-    offsets: &mut [usize],
-    marking: &mut [u8],
-    end: &mut [u8],
-) -> Opened
-    requires { ⌜ Empty (now steps) (now lifted) (now offsets) (now marking) (now end) ⌝ }
-    ensures { λ r. ⌜ Opens (now (net .entry)) (now (run .entry)) r (now (steps .exit)) (now (lifted .exit)) (now (offsets .exit)) (now (marking .exit)) (now (end .exit)) ⌝ }
-{
-    let read = listing::read_files(net, run, steps);
-    let Judged::Fine(count) = read else {
-        return refused(read);
-    };
-    let reached = reach_end(net, &steps[0..count], lifted, end);
-    let Judged::Fine(unfolded) = reached else {
-        return refused(reached);
-    };
-    let judged = set_up(net, offsets, marking);
-    let Judged::Fine(events) = judged else {
-        return refused(judged);
-    };
-    let conditions = words::word(net, 0) as usize;
-    Opened {
-        answer: Judged::Fine(count),
-        events,
-        conditions,
-        unfolded,
-    }
 }

@@ -65,7 +65,7 @@ fn list<'a>(net: &'a [u8], run: &'a [u8]) {
     let mut offsets = [0usize; 256];
     let mut marking = [0u8; 256];
     let mut end = [0u8; 65535];
-    let opened = lines::open_files(
+    let opened = opening::open_files(
         net,
         run,
         &mut steps,

@@ -3,7 +3,7 @@ use Prim.Native.Nat.{ℕ, _≤_}
 use native.Mathlib.Omega.{arith}
 use mathlib.Core.Path.{_≡_, _∙_}
 use lib.ListN.{length, length-replicate}
-use Rattle.lines.proofs.Opening.{few-shown, opened-ready}
+use Rattle.lines.proofs.Ready.{few-shown, opened-ready}
 use borrow.Author.Needs.{needs}
 use Rattle.list.proofs.list.Statement.{statement}
 use Rattle.list.proofs.list.Tie as tie

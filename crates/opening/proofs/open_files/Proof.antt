@@ -1,9 +1,9 @@
 -- Stage after stage, and what refuses first is passed up.
 use mathlib.Core.Path.{refl}
-use Rattle.lines.proofs.Opening.{files-refused, read-room, run-refused, never-refused, opened}
+use Rattle.opening.proofs.Opening.{files-refused, read-room, run-refused, never-refused, opened}
 use borrow.Author.Needs.{needs}
-use Rattle.lines.proofs.open_files.Statement.{statement}
-use Rattle.lines.proofs.open_files.Tie as tie
+use Rattle.opening.proofs.open_files.Statement.{statement}
+use Rattle.opening.proofs.open_files.Tie as tie
 
 returns : tie.Need-returns
 returns c =

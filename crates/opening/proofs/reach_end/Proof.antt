@@ -1,8 +1,8 @@
 -- The lift is written, and its numbers are replayed.
-use Rattle.lines.proofs.Opening.{reach-refused, lift-room, reach-ended}
+use Rattle.opening.proofs.Opening.{reach-refused, lift-room, reach-ended}
 use borrow.Author.Needs.{needs}
-use Rattle.lines.proofs.reach_end.Statement.{statement}
-use Rattle.lines.proofs.reach_end.Tie as tie
+use Rattle.opening.proofs.reach_end.Statement.{statement}
+use Rattle.opening.proofs.reach_end.Tie as tie
 
 returns : tie.Need-returns
 returns c =

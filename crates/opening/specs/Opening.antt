@@ -19,7 +19,7 @@ use Rattle.across.specs.Calls.{numbersOf}
 use Rattle.lift.specs.Calls.{liftOf}
 use Rattle.ends.specs.Calls.{unfoldedReplayOf}
 use Rattle.listing.specs.Calls.{filesOf}
-use Rattle.lines.specs.declared.Opened.{Opened}
+use Rattle.opening.specs.declared.Opened.{Opened}
 
 -- The lifted run of a run (01, Nets to test with: Listing).
 unfoldable pub liftedRun : List ℕ → List ℕ → List ℕ

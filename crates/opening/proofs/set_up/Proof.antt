@@ -2,10 +2,10 @@
 use native.Mathlib.Omega.{arith}
 use mathlib.Core.Path.{sym, _∙_}
 use Rattle.table.proofs.Walk.{accepted}
-use Rattle.lines.proofs.Opening.{set-up-refused, set-up-done}
+use Rattle.opening.proofs.Opening.{set-up-refused, set-up-done}
 use borrow.Author.Needs.{needs}
-use Rattle.lines.proofs.set_up.Statement.{statement}
-use Rattle.lines.proofs.set_up.Tie as tie
+use Rattle.opening.proofs.set_up.Statement.{statement}
+use Rattle.opening.proofs.set_up.Tie as tie
 
 returns : tie.Need-returns
 returns c =

@@ -1,0 +1,2 @@
+-- What the contract of the call says, and what stands below it.
+pub mod Opening
