@@ -20,7 +20,7 @@ pub fn sizes_before<'a>(table: &'a [u8], events: usize, markers: &'a [u32], befo
     let mut e: usize = 0;
     while e < events {
         before[e] = total;
-        total = total + layout::colours(table, markers, tally::list_at(table, at, false));
+        total = total + colours::colours(table, markers, tally::list_at(table, at, false));
         at = at + 4 + words::word(table, at) as usize;
         e = e + 1;
     }

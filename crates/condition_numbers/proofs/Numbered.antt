@@ -10,7 +10,7 @@ use lib.ListN.{length, getD, drop, length-take, List·getD-eq-default}
 use borrow.Author.Tests.{lt-ltb, eqb-true}
 use native.Mathlib.Decide.{decLe}
 use Rattle.records.specs.Records.{conditions, flags}
-use Rattle.layout.specs.Colours.{flagged}
+use Rattle.colours.specs.Colours.{flagged}
 use Rattle.lists.specs.Lists.{index, sum, _∈_}
 use Rattle.lists.proofs.Bools.{is-false, not-true, T-of}
 use Rattle.lists.proofs.Places.{at-lt, number-index}

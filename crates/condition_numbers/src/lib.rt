@@ -21,7 +21,7 @@ pub fn ordinary_number(table: &[u8], b: TableCondition) -> Judged
     if words::word(table, 0) <= wanted {
         return refusal::refused(10, 0);
     }
-    if layout::is_persistent(table, wanted as usize) {
+    if colours::is_persistent(table, wanted as usize) {
         return refusal::refused(10, 0);
     }
     Judged::Fine(tally::number(&bases, wanted as usize) as usize)
@@ -39,7 +39,7 @@ pub fn copy_number(table: &[u8], b: TableCondition, marker: Marker, user: TableE
         return r;
     };
     let wanted = b.0 as usize;
-    if layout::is_persistent(table, wanted) {
+    if colours::is_persistent(table, wanted) {
         let m = unfolding::marker_place(table, events, wanted, marker);
         if (tally::number(&markers, wanted) as usize) <= m {
             return refusal::refused(10, 0);

@@ -28,7 +28,7 @@ use Rattle.table.proofs.Decoded.{conditions-are-all}
 use Rattle.tally.specs.Having.{listOf, having}
 use Rattle.layout.specs.Laid.{Sums, Laid}
 use Rattle.layout.specs.Unfolds.{unfoldingOf}
-use Rattle.layout.specs.Colours.{flagged}
+use Rattle.colours.specs.Colours.{flagged}
 use Rattle.layout.proofs.Counts.{uses-at}
 use Rattle.layout.proofs.Limits.{unfolds-passed, unfolds-on, unfolds-judged}
 use Rattle.unfolding.proofs.Places.{kept-below}

@@ -64,7 +64,7 @@ pub fn condition_origin(table: &[u8], i: UnfoldedCondition) -> ConditionOrigin
     if count <= b {
         return no_origin(refusal::refused(10, 0));
     }
-    if layout::is_persistent(table, b) {
+    if colours::is_persistent(table, b) {
         let rest = wanted - tally::number(&bases, b);
         let width = tally::number(&users, b);
         let m = unfolding::marker_at(table, events, b, (rest / width) as usize);

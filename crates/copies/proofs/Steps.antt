@@ -29,7 +29,7 @@ use Rattle.table.specs.Decoded.{netIf, netOf}
 use Rattle.table.proofs.Decoded.{conditions-are-all}
 use Rattle.tally.specs.Having.{listPart, Tally}
 use Rattle.tally.proofs.Events.{list-read}
-use Rattle.layout.specs.Colours.{flagged}
+use Rattle.colours.specs.Colours.{flagged}
 use Rattle.layout.proofs.Counts.{sum-part, uses-at}
 use Rattle.copies.specs.Copies.{holdsBy}
 use Rattle.copies.specs.Writing.{Within, Fits, Ranged, ownCount, ownByte, copiesFrom, copiesCount, ListFits, Listed, Right, ownBelow, markedBelow, Roomy}

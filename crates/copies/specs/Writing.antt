@@ -13,7 +13,7 @@ use Rattle.model.specs.Runs.{atStart, byEvent}
 use Rattle.model.specs.Unfolding.{UnfoldedCondition, ordinary, copy, unfoldedConditions, basic}
 use Rattle.model.specs.Across.{mostUnfolded}
 use Rattle.table.specs.Decoded.{netOf}
-use Rattle.layout.specs.Colours.{flagged}
+use Rattle.colours.specs.Colours.{flagged}
 use Rattle.layout.specs.Laid.{Laid}
 use Rattle.copies.specs.Copies.{holdsBy}
 

@@ -37,7 +37,7 @@ fn write_own<'a>(
     ensures { λ _. ⌜ Ranged (getD (now (bases .entry)) b 0) (ownCount (now (table .entry)) (now (users .entry)) b) (ownByte (now (table .entry)) (now (start .entry)) (now (state .entry)) b) (now (out .entry)) (now (out .exit)) ⌝ }
 {
     let base = tally::number(bases, b) as usize;
-    if layout::is_persistent(table, b) {
+    if colours::is_persistent(table, b) {
         fill(
             out,
             base,
@@ -82,7 +82,7 @@ fn write_marked<'a>(
     requires { ⌜ CopiesFit (now table) (now users) (now bases) (now places) b (now out) ⌝ }
     ensures { λ _. ⌜ Ranged (copiesFrom (now (users .entry)) (now (bases .entry)) (now (places .entry)) b) (copiesCount (now (table .entry)) (now (users .entry)) b) value (now (out .entry)) (now (out .exit)) ⌝ }
 {
-    if layout::is_persistent(table, b) {
+    if colours::is_persistent(table, b) {
         let count = tally::number(users, b) as usize;
         let from = tally::number(bases, b) as usize + tally::number(places, b) as usize * count;
         fill(out, from, count, value);

@@ -22,8 +22,8 @@ use Rattle.model.specs.Unfolding.{markers}
 use Rattle.model.specs.Numbering.{digits}
 use Rattle.table.specs.Decoded.{netOf}
 use Rattle.tally.specs.Having.{having}
-use Rattle.layout.specs.Colours.{flagged}
-use Rattle.layout.proofs.Products.{words-short}
+use Rattle.colours.specs.Colours.{flagged}
+use Rattle.colours.proofs.Products.{words-short}
 use Rattle.events.specs.declared.Colour.{Colour}
 use Rattle.events.specs.Colours.{noColour, push}
 use Rattle.events.specs.Numbers.{Picking}

@@ -13,7 +13,7 @@ use Rattle.model.specs.Numbering.{digits}
 use Rattle.model.specs.Lent.{bytes, marking}
 use Rattle.table.specs.Decoded.{netOf}
 use Rattle.table.specs.Walk.{offsetOf}
-use Rattle.layout.specs.Colours.{flagged}
+use Rattle.colours.specs.Colours.{flagged}
 use Rattle.tally.specs.Having.{Tally}
 use Rattle.events.specs.Colours.{noColour}
 use Rattle.unfolding.specs.Numbers.{choicesOf}

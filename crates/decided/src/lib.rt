@@ -50,7 +50,7 @@ pub fn choose<'a>(
     }
     let b = words::word(pre, 0) as usize;
     let later = &pre[2..];
-    if layout::is_persistent(table, b) {
+    if colours::is_persistent(table, b) {
         let below = weight / tally::number(markers, b);
         keep(table, events, b, rest / below, places, kept);
         let left = rest % below;
@@ -88,7 +88,7 @@ fn is_ready<'a>(
 ) -> bool
     ensures { λ r. ⌜ r ≡ readyAt (now (table .entry)) (now (state .entry)) (now (begun .entry)) (now (seen .entry)) (now (places .entry)) (now (kept .entry)) b ⌝ }
 {
-    if layout::is_persistent(table, b) {
+    if colours::is_persistent(table, b) {
         return has_marked(begun, seen, places, kept, b);
     }
     words::byte(state, b) == 1
@@ -160,7 +160,7 @@ fn is_clear<'a>(
     requires { ⌜ Members (words (now pre)) (now taken) ⌝ }
     ensures { λ r. ⌜ r ≡ clearAt (now (table .entry)) (now (users .entry)) (words (now (pre .entry))) e again (now (state .entry)) (now (places .entry)) (now (kept .entry)) b ⌝ }
 {
-    if layout::is_persistent(table, b) {
+    if colours::is_persistent(table, b) {
         if again {
             return gives_back(users, pre, e, places, kept, b);
         }

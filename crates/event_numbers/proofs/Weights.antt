@@ -16,8 +16,8 @@ use Rattle.model.specs.Unfolding.{sameMarker, markers}
 use Rattle.model.specs.Numbering.{ways, radix}
 use Rattle.model.specs.Across.{mostUnfolded}
 use Rattle.table.specs.Decoded.{netOf}
-use Rattle.layout.specs.Colours.{flagged}
-use Rattle.layout.proofs.Products.{words-short}
+use Rattle.colours.specs.Colours.{flagged}
+use Rattle.colours.proofs.Products.{words-short}
 use Rattle.layout.proofs.Counts.{marks-at}
 use Rattle.events.specs.declared.Colour.{Colour}
 use Rattle.event_numbers.specs.declared.Weighed.the-variants.{Is, NoSuch}

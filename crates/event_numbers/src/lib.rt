@@ -46,7 +46,7 @@ fn weigh<'a>(
         return weigh_none(c, at);
     }
     let b = words::word(pre, 0) as usize;
-    if layout::is_persistent(table, b) {
+    if colours::is_persistent(table, b) {
         if at == c.count {
             return Weighed::NoSuch;
         }

@@ -16,8 +16,8 @@ use Rattle.model.specs.Unfolding.{markers}
 use Rattle.model.specs.Numbering.{ways, digits}
 use Rattle.refusal.specs.declared.Marker as declared
 use Rattle.table.specs.Decoded.{netOf}
-use Rattle.layout.specs.Colours.{flagged}
-use Rattle.layout.proofs.Products.{part-two, words-first, words-short}
+use Rattle.colours.specs.Colours.{flagged}
+use Rattle.colours.proofs.Products.{part-two, words-first, words-short}
 use Rattle.layout.proofs.Counts.{marks-at}
 use Rattle.events.specs.declared.Colour.{Colour}
 use Rattle.events.specs.Colours.{push, pushAll}

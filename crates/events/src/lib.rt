@@ -68,7 +68,7 @@ fn picked<'a>(
         return c;
     }
     let b = words::word(pre, 0) as usize;
-    if layout::is_persistent(table, b) {
+    if colours::is_persistent(table, b) {
         let below = weight / tally::number(markers, b);
         let m = unfolding::marker_at(table, events, b, (rest / below) as usize);
         let next = pushed(c, m);

@@ -16,7 +16,7 @@ use Rattle.words.proofs.Laws.{words-next, words-end}
 use Rattle.model.specs.Runs as model
 use Rattle.model.specs.Runs.{marker, orElse}
 use Rattle.refusal.specs.declared.Marker.{Marker}
-use Rattle.layout.specs.Colours.{flagged}
+use Rattle.colours.specs.Colours.{flagged}
 use Rattle.unfolding.specs.Markers.{meant}
 use Rattle.firsts.specs.declared.First.{First}
 use Rattle.firsts.specs.declared.First.the-variants.{Unset, Set}

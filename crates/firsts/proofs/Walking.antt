@@ -18,7 +18,7 @@ use Rattle.table.proofs.Decoded.{start-read, events-are-all}
 use Rattle.table.proofs.Sound.{tabled}
 use Rattle.tally.specs.Having.{listPart}
 use Rattle.tally.proofs.Events.{list-read, list-inside}
-use Rattle.layout.specs.Colours.{flagged}
+use Rattle.colours.specs.Colours.{flagged}
 use Rattle.layout.proofs.Limits.{flags-are}
 use Rattle.firsts.specs.declared.First.the-variants.{Unset}
 use Rattle.firsts.specs.declared.Slot.{Slot}

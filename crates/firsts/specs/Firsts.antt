@@ -8,7 +8,7 @@ use lib.ListN.{getD, set, replicate}
 use Rattle.lists.specs.Lists.{mem}
 use Rattle.model.specs.Runs.{Marker}
 use Rattle.refusal.specs.declared.Marker as declared
-use Rattle.layout.specs.Colours.{flagged}
+use Rattle.colours.specs.Colours.{flagged}
 use Rattle.unfolding.specs.Markers.{meant}
 use Rattle.firsts.specs.declared.First.{First}
 use Rattle.firsts.specs.declared.First.the-variants.{Unset, Set}

@@ -7,7 +7,7 @@ ghost use lib.ListN.{replicate};
 ghost use Rattle.lists.specs.Lists.{any};
 ghost use Rattle.words.specs.Words.{words};
 ghost use Rattle.table.specs.Decoded.{netOf};
-ghost use Rattle.layout.specs.Colours.{flagged};
+ghost use Rattle.colours.specs.Colours.{flagged};
 ghost use Rattle.firsts.specs.Firsts.{Inside, noSlots, markOne, markAll, sooner};
 ghost use Rattle.firsts.specs.Walks.{Walkable, Walks};
 
@@ -52,7 +52,7 @@ fn mark_one(firsts: Firsts, table: &[u8], b: usize, m: Marker) -> Firsts
     ensures { λ r. ⌜ r .slots ≡ markOne (now (table .entry)) (firsts .slots) m b ⌝ }
 {
     let mut next = firsts;
-    if layout::is_persistent(table, b) {
+    if colours::is_persistent(table, b) {
         let slot = next.slots[b];
         let first = slot.0;
         if let First::Unset = first {
@@ -82,7 +82,7 @@ fn marks<'a>(table: &'a [u8], list: &'a [u8]) -> bool
 {
     let mut i: usize = 0;
     while 1 < list.len() - i {
-        if layout::is_persistent(table, words::word(list, i) as usize) {
+        if colours::is_persistent(table, words::word(list, i) as usize) {
             return true;
         }
         i = i + 2;

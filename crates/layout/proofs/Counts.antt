@@ -24,7 +24,8 @@ use Rattle.words.specs.Words.{words}
 use Rattle.table.specs.Walk.{offsetOf}
 use Rattle.tally.proofs.Tallies.{keep-few}
 use Rattle.tally.proofs.Events.{list-inside, list-read}
-use Rattle.layout.specs.Colours.{flagged, radices, product, capped, widthAt, idleAt}
+use Rattle.colours.specs.Colours.{flagged, radices, product, capped}
+use Rattle.layout.specs.Counts.{widthAt, idleAt}
 use Rattle.layout.specs.Laid.{Low, Marked, Counted}
 
 -- ---- small numbers

@@ -22,7 +22,8 @@ use Rattle.table.specs.Links.{refusedOr}
 use Rattle.table.proofs.Decoded.{net-judged, events-are-all, conditions-are-all}
 use Rattle.table.proofs.Sound.{tabled}
 use Rattle.tally.specs.Having.{Tally}
-use Rattle.layout.specs.Colours.{flagged, cappedCount, idleOr, eventsOf, widthAt}
+use Rattle.colours.specs.Colours.{flagged}
+use Rattle.layout.specs.Counts.{cappedCount, idleOr, eventsOf, widthAt}
 use Rattle.layout.specs.Unfolds.{unfoldingOf}
 use Rattle.layout.specs.Laid.{Sums, Counted}
 use Rattle.layout.proofs.Counts.{sum-same, sum-capped, sum-capped-low, width-read}

@@ -10,7 +10,8 @@ use borrow.Author.Tests.{eq-eqb, ne-eqb}
 use Rattle.lists.specs.Lists.{all}
 use Rattle.words.specs.Words.{wordAt, words}
 use Rattle.words.proofs.Laws.{words-next, words-end}
-use Rattle.layout.specs.Colours.{flagged, idleAt}
+use Rattle.colours.specs.Colours.{flagged}
+use Rattle.layout.specs.Counts.{idleAt}
 
 -- a postcondition is persistent and has no user
 abbrev pub unused : List ℕ → List ℕ → ℕ → Bool

@@ -12,7 +12,7 @@ use Rattle.refusal.specs.declared.Judged.the-variants.{Fine}
 use Rattle.table.specs.Decoded.{netOf}
 use Rattle.table.specs.Tabled.{Tabled}
 use Rattle.tally.specs.Having.{Tally}
-use Rattle.layout.specs.Colours.{flagged}
+use Rattle.colours.specs.Colours.{flagged}
 use Rattle.layout.specs.Unfolds.{unfoldingOf}
 
 -- Every number is small, so that a product of two fits.

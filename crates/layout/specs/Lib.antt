@@ -1,4 +1,4 @@
 -- The definitions, in reading order.
-pub mod Colours
+pub mod Counts
 pub mod Unfolds
 pub mod Laid

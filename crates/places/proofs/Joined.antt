@@ -21,7 +21,7 @@ use Rattle.table.specs.Walk.{offsetOf}
 use Rattle.table.specs.Decoded.{netOf}
 use Rattle.tally.specs.Having.{listPart}
 use Rattle.tally.proofs.Events.{list-read, list-inside}
-use Rattle.layout.specs.Colours.{flagged}
+use Rattle.colours.specs.Colours.{flagged}
 use Rattle.layout.specs.Laid.{Low, Marked, Sums}
 use Rattle.layout.proofs.Counts.{tally-low, marks-at}
 use Rattle.unfolding.specs.Numbers.{Within, choicesOf, allMark}

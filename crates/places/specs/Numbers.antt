@@ -11,7 +11,7 @@ use Rattle.model.specs.Unfolding.{markers, reads}
 use Rattle.model.specs.Numbering.{radix, size}
 use Rattle.model.specs.Across.{mostUnfolded, orStart}
 use Rattle.table.specs.Decoded.{netOf}
-use Rattle.layout.specs.Colours.{flagged}
+use Rattle.colours.specs.Colours.{flagged}
 use Rattle.layout.specs.Laid.{Low, Marked, Sums}
 use Rattle.unfolding.specs.Numbers.{Within}
 use Rattle.firsts.specs.declared.Slot.{Slot}

@@ -102,7 +102,7 @@ fn joined_one<'a>(
     requires { ⌜ Low (now markers) × Low (now places) × (number ≤ 65535) ⌝ }
     ensures { λ r. ⌜ r ≡ joined (now (table .entry)) (now (markers .entry)) (now (places .entry)) number b ⌝ }
 {
-    if layout::is_persistent(table, b) {
+    if colours::is_persistent(table, b) {
         return number * tally::number(markers, b) + tally::number(places, b);
     }
     number

@@ -54,8 +54,8 @@ use Rattle.tally.proofs.raise.Reads as raised
 use Rattle.tally.proofs.tally.Reads as tallied
 use Rattle.tally.proofs.nth.Reads as nth-of
 use Rattle.tally.proofs.place.Reads as place-among
-use Rattle.layout.proofs.is_persistent.Reads as is-persistent
-use Rattle.layout.proofs.colours.Reads as colours
+use Rattle.colours.proofs.is_persistent.Reads as is-persistent
+use Rattle.colours.proofs.colours.Reads as colours
 use Rattle.unfolding.proofs.marker_at.Reads as marker-at
 use Rattle.unfolding.proofs.marker_place.Reads as marker-place
 use Rattle.unfolding.proofs.owner.Reads as owner

@@ -21,7 +21,7 @@ use Rattle.model.proofs.Unfolded.{picked-in}
 use Rattle.words.specs.Words.{wordAt, words}
 use Rattle.words.proofs.Laws.{words-next, words-end}
 use Rattle.table.specs.Decoded.{netOf}
-use Rattle.layout.specs.Colours.{flagged}
+use Rattle.colours.specs.Colours.{flagged}
 use Rattle.unfolding.specs.Numbers.{choicesOf}
 use Rattle.layout.proofs.Counts.{marks-at}
 use Rattle.unfolding.proofs.Places.{some-marker}

@@ -12,7 +12,7 @@ use Rattle.model.specs.Unfolding.{markers, users}
 use Rattle.model.specs.Numbering.{width, conditionCount}
 use Rattle.table.specs.Decoded.{netOf}
 use Rattle.tally.specs.Having.{oneAt, listOf, having}
-use Rattle.layout.specs.Colours.{flagged}
+use Rattle.colours.specs.Colours.{flagged}
 use Rattle.layout.proofs.Counts.{sum-part}
 use Rattle.segments.specs.Ranges.{within, aloneOf, joinedOf, eventAt, added, sizeIf, Known}
 use Rattle.segments.proofs.Copied.{first-most, unread-added, taken-most, read-added, ordinary-added}

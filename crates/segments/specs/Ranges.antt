@@ -16,7 +16,7 @@ use Rattle.table.specs.Walk.{offsetOf}
 use Rattle.table.specs.Decoded.{netOf}
 use Rattle.table.specs.Tabled.{Tabled}
 use Rattle.tally.specs.Having.{Members, Tally, listOf}
-use Rattle.layout.specs.Colours.{flagged}
+use Rattle.colours.specs.Colours.{flagged}
 use Rattle.layout.specs.Laid.{Marked, Laid, Sums}
 use Rattle.unfolding.specs.Numbers.{choicesOf}
 use Rattle.segments.specs.declared.Segment.{Segment}

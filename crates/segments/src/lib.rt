@@ -44,7 +44,7 @@ pub fn own(event: usize, at: usize, weight: u32, rest: u32) -> Owner
 fn choices<'a>(table: &'a [u8], markers: &'a [u32], b: usize) -> u32
     ensures { λ r. ⌜ r ≡ choicesAt (now (table .entry)) (now (markers .entry)) b ⌝ }
 {
-    if layout::is_persistent(table, b) {
+    if colours::is_persistent(table, b) {
         tally::number(markers, b)
     } else {
         1
@@ -145,7 +145,7 @@ fn segment_at<'a>(
     ensures { λ r. ⌜ within r ≡ added (netOf (now (table .entry))) post (eventAt (netOf (now (table .entry))) (own .event) (own .rest)) b ⌝ }
 {
     let base = tally::number(bases, b);
-    if layout::is_persistent(table, b) {
+    if colours::is_persistent(table, b) {
         let width = tally::number(users, b);
         let first = base + tally::number(marks, b) * width;
         let size = size_if(post, members, b, width);

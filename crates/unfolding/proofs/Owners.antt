@@ -11,7 +11,7 @@ use Rattle.table.specs.Walk.{offsetOf}
 use Rattle.table.specs.Decoded.{netOf}
 use Rattle.tally.specs.Having.{listPart}
 use Rattle.layout.specs.Laid.{Laid}
-use Rattle.layout.specs.Colours.{radices, product, capped}
+use Rattle.colours.specs.Colours.{radices, product, capped}
 use Rattle.layout.proofs.Counts.{sum-part, sum-next, colours-walk}
 use Rattle.unfolding.specs.Numbers.{Within}
 

@@ -57,7 +57,7 @@ pub fn owner<'a>(table: &'a [u8], events: usize, markers: &'a [u32], j: u32) -> 
     let mut at = 4 + words::word(table, 0) as usize;
     let mut e: usize = 0;
     while e < events {
-        let weight = layout::colours(table, markers, tally::list_at(table, at, false));
+        let weight = colours::colours(table, markers, tally::list_at(table, at, false));
         if rest < weight {
             return Found::At(e, at, rest, weight);
         }
@@ -78,7 +78,7 @@ pub fn colours_before<'a>(table: &'a [u8], events: usize, markers: &'a [u32], up
     let mut at = 4 + words::word(table, 0) as usize;
     let mut e: usize = 0;
     while e < upto {
-        total = total + layout::colours(table, markers, tally::list_at(table, at, false)) as usize;
+        total = total + colours::colours(table, markers, tally::list_at(table, at, false)) as usize;
         at = at + 4 + words::word(table, at) as usize;
         e = e + 1;
     }

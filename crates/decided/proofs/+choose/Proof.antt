@@ -13,7 +13,7 @@ use Rattle.decided.proofs.choose.Reads as choose
 use Rattle.decided.proofs.choose.Kinds as choose-kinds
 use Rattle.decided.proofs.+choose.Lts-choose as choose-lts
 use Rattle.decided.proofs.keep.Reads as keep-reads
-use Rattle.layout.proofs.is_persistent.Reads as is-persistent-reads
+use Rattle.colours.proofs.is_persistent.Reads as is-persistent-reads
 use Rattle.tally.proofs.number.Reads as number-reads
 use Rattle.words.proofs.word.Reads as word-reads
 use Rattle.decided.proofs.+choose.{statement}

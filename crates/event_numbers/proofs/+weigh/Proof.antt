@@ -14,7 +14,7 @@ use Rattle.event_numbers.proofs.weigh.Reads as weigh
 use Rattle.event_numbers.proofs.weigh.Kinds as weigh-kinds
 use Rattle.event_numbers.proofs.+weigh.Lts-weigh as weigh-lts
 use Rattle.event_numbers.proofs.weigh_none.Reads as weigh-none-reads
-use Rattle.layout.proofs.is_persistent.Reads as is-persistent-reads
+use Rattle.colours.proofs.is_persistent.Reads as is-persistent-reads
 use Rattle.tally.proofs.number.Reads as number-reads
 use Rattle.unfolding.proofs.marker_place.Reads as marker-place-reads
 use Rattle.words.proofs.word.Reads as word-reads

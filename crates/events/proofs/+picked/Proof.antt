@@ -15,7 +15,7 @@ use borrow.Fn.PlainCycle.{Measures, is, falls, and}
 use Rattle.events.proofs.picked.Reads as picked
 use Rattle.events.proofs.picked.Kinds as picked-kinds
 use Rattle.events.proofs.+picked.Lts-picked as picked-lts
-use Rattle.layout.proofs.is_persistent.Reads as is-persistent-reads
+use Rattle.colours.proofs.is_persistent.Reads as is-persistent-reads
 use Rattle.tally.proofs.number.Reads as number-reads
 use Rattle.unfolding.proofs.marker_at.Reads as marker-at-reads
 use Rattle.events.proofs.pushed.Reads as pushed-reads

@@ -6,7 +6,7 @@ use mathlib.Core.Path.{_≡_, _∙_, sym}
 use lib.ListN.{length, drop}
 use Rattle.lists.specs.Lists.{any}
 use Rattle.words.specs.Words.{words}
-use Rattle.layout.specs.Colours.{flagged}
+use Rattle.colours.specs.Colours.{flagged}
 use Rattle.firsts.proofs.Marking.{any-here, any-later, any-end}
 use Rattle.firsts.proofs.marks.Statement.{statement}
 use Rattle.firsts.proofs.marks.Tie as tie

@@ -1,7 +1,8 @@
 -- `layout::events_judged` meets its contract.
 use mathlib.Core.Option.{Option}
 use Rattle.refusal.specs.declared.Judged.the-variants.{Fine}
-use Rattle.layout.specs.Colours.{idleOr, capped, cappedCount, eventsOf}
+use Rattle.colours.specs.Colours.{capped}
+use Rattle.layout.specs.Counts.{idleOr, cappedCount, eventsOf}
 use Rattle.layout.proofs.Counts.{sum-next, idle-walk, colours-walk, touches, idle-here, idle-later, idle-end, idle-all}
 use borrow.Author.Needs.{needs}
 use native.Mathlib.Omega.{arith}

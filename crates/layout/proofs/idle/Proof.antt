@@ -6,7 +6,7 @@ use Prim.Native.Nat.{_-_, _≤_}
 use lib.ListN.{length, drop}
 use Rattle.lists.specs.Lists.{all}
 use Rattle.words.specs.Words.{words}
-use Rattle.layout.specs.Colours.{idleAt}
+use Rattle.layout.specs.Counts.{idleAt}
 use Rattle.layout.proofs.Steps.{unused, some-precondition, no-precondition, unused-next, used-here, ordinary-here, unused-end}
 use Rattle.layout.proofs.idle.Statement.{statement}
 use Rattle.layout.proofs.idle.Tie as tie

@@ -8,7 +8,7 @@ use lib.ListN.{length, getD, length-set}
 use Rattle.lists.specs.Lists.{sum}
 use Rattle.model.specs.Numbering.{size}
 use Rattle.tally.proofs.Lists.{set-more}
-use Rattle.layout.specs.Colours.{widthAt}
+use Rattle.layout.specs.Counts.{widthAt}
 use Rattle.layout.proofs.sums.Statement.{statement}
 use Rattle.layout.proofs.sums.Tie as tie
 

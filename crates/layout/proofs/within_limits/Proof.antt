@@ -9,7 +9,7 @@ use Rattle.model.specs.Numbering.{conditionCount, eventCount}
 use Rattle.table.specs.Decoded.{netOf}
 use Rattle.table.proofs.Decoded.{events-are-all}
 use lib.ListN.{getD}
-use Rattle.layout.specs.Colours.{cappedCount}
+use Rattle.layout.specs.Counts.{cappedCount}
 use Rattle.layout.proofs.Limits.{idle-refused, all-touch, conditions-over, events-over, goes-on, count-whole, count-read}
 use borrow.Author.Needs.{needs}
 use Rattle.layout.proofs.within_limits.Statement.{statement}

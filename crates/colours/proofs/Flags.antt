@@ -8,7 +8,7 @@ use lib.Dec.{eqb}
 use lib.ListN.{getD, take, drop, length-take, List·getD-eq-default}
 use lib.Seq.{getD-take, getD-drop}
 use Rattle.words.specs.Words.{wordAt}
-use Rattle.layout.specs.Colours.{flagged}
+use Rattle.colours.specs.Colours.{flagged}
 
 module _ (s : List ℕ) (b n : ℕ) (e : n ≡ wordAt s 0) where
   pub flag-here : b < n → eqb (getD s (4 + b) 0) 1 ≡ flagged s b

@@ -1,43 +1,18 @@
--- What the unfolding counts of a table, read from its flags and from the numbers of markers and users: colours, copies, idle events.
-use Prim.Native.Nat.{ℕ, _+_, _*_, min}
+-- What the unfolding counts of a table, read from its flags and from the numbers of markers and users: all colours, copies, idle events.
+use Prim.Native.Nat.{ℕ, _*_}
 use mathlib.Core.Bool.{Bool, _&&_, cond}
-use mathlib.Core.List.{List, [], _∷_, map}
+use mathlib.Core.List.{List}
 use mathlib.Core.Option.{Option, none, some}
 use lib.Dec.{eqb}
 use lib.ListN.{getD}
-use Rattle.lists.specs.Lists.{all, empty, keep, sum}
+use Rattle.lists.specs.Lists.{all, empty, sum}
 use Rattle.model.specs.Net.{Net}
 use Rattle.model.specs.Numbering.{size}
-use Rattle.model.specs.Across.{mostUnfolded, lowestIdle}
+use Rattle.model.specs.Across.{lowestIdle}
 use Rattle.refusal.specs.declared.Judged.{Judged}
 use Rattle.refusal.specs.declared.Judged.the-variants.{Fine}
 use Rattle.refusal.specs.Answer.{refusedAt}
-use Rattle.records.specs.Records.{flags}
-
--- A condition's byte among the conditions' bytes says that it is persistent (01, Table records).
-abbrev pub flaggedIn : List ℕ → ℕ → Bool
-flaggedIn bytes b = eqb (getD bytes b 0) 1
-
--- A condition's byte says that it is persistent (01, Table records).
-abbrev pub flagged : List ℕ → ℕ → Bool
-flagged s b = flaggedIn (flags s) b
-
--- The numbers of markers of the persistent ones in a list, one for each, by the conditions' bytes (01, Unfolding).
-abbrev pub radicesIn : List ℕ → List ℕ → List ℕ → List ℕ
-radicesIn bytes markers l = map (λ b. getD markers b 0) (keep (flaggedIn bytes) l)
-
--- The same of a table (01, Unfolding).
-abbrev pub radices : List ℕ → List ℕ → List ℕ → List ℕ
-radices s markers l = radicesIn (flags s) markers l
-
--- The product of a list of numbers (01, Unfolding).
-unfoldable pub product : List ℕ → ℕ
-product [] = 1
-product (r ∷ rs) = r * product rs
-
--- A count, or one more than the most there may be, so that over the limit stays over the limit (01, Unfolding).
-abbrev pub capped : ℕ → ℕ
-capped k = min k (mostUnfolded + 1)
+use Rattle.colours.specs.Colours.{flagged, capped}
 
 -- The numbers of colours of all events, each capped, in one sum (01, Unfolding).
 unfoldable pub cappedCount : Net → ℕ

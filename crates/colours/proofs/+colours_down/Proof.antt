@@ -1,21 +1,21 @@
--- `layout::colours_down` meets its contract.
+-- `colours::colours_down` meets its contract.
 use mathlib.Core.Path.{sym, ap}
-use Rattle.layout.specs.Colours.{capped}
-use Rattle.layout.proofs.Products.{capped-mul, front-within, product-none, product-more}
+use Rattle.colours.specs.Colours.{capped}
+use Rattle.colours.proofs.Products.{capped-mul, front-within, product-none, product-more}
 use lib.ListN.{length}
 use borrow.Author.Needs.{needs}
 use Prim.Native.Nat.{ℕ, _<_}
 use borrow.Fn.Kinds.{In}
 use borrow.Fn.PlainCycle.{Measures, is, falls, and}
-use Rattle.layout.proofs.colours_down.Reads as colours-down
-use Rattle.layout.proofs.colours_down.Kinds as colours-down-kinds
-use Rattle.layout.proofs.+colours_down.Lts-colours_down as colours-down-lts
-use Rattle.layout.proofs.capped_product.Reads as capped-product-reads
-use Rattle.layout.proofs.first_persistent.Reads as first-persistent-reads
+use Rattle.colours.proofs.colours_down.Reads as colours-down
+use Rattle.colours.proofs.colours_down.Kinds as colours-down-kinds
+use Rattle.colours.proofs.+colours_down.Lts-colours_down as colours-down-lts
+use Rattle.colours.proofs.capped_product.Reads as capped-product-reads
+use Rattle.colours.proofs.first_persistent.Reads as first-persistent-reads
 use Rattle.tally.proofs.number.Reads as number-reads
 use Rattle.words.proofs.word_within.Reads as word-within-reads
-use Rattle.layout.proofs.+colours_down.{statement}
-use Rattle.layout.proofs.+colours_down.Tie.{close}
+use Rattle.colours.proofs.+colours_down.{statement}
+use Rattle.colours.proofs.+colours_down.Tie.{close}
 
 abbrev μ-colours-down : Measures 2 colours-down-kinds.ps ℕ
 μ-colours-down κs a = length (a .1 .1 .0 .now)

@@ -1,8 +1,8 @@
--- `layout::is_persistent` meets its contract.
-use Rattle.layout.proofs.Flags.{flag-here, flag-past}
+-- `colours::is_persistent` meets its contract.
+use Rattle.colours.proofs.Flags.{flag-here, flag-past}
 use borrow.Author.Needs.{needs}
-use Rattle.layout.proofs.is_persistent.Statement.{statement}
-use Rattle.layout.proofs.is_persistent.Tie as tie
+use Rattle.colours.proofs.is_persistent.Statement.{statement}
+use Rattle.colours.proofs.is_persistent.Tie as tie
 
 returns : tie.Need-returns
 returns c =

@@ -16,7 +16,7 @@ use Rattle.lists.proofs.Bools.{T-of, not-true, or-left, or-right, or-none}
 use Rattle.words.specs.Words.{wordAt, words}
 use Rattle.words.proofs.Laws.{words-next, words-end}
 use Rattle.records.specs.Records.{part, conditions}
-use Rattle.layout.specs.Colours.{flaggedIn, radicesIn, radices, product, capped}
+use Rattle.colours.specs.Colours.{flaggedIn, radicesIn, radices, product, capped}
 
 -- a count that is capped already serves in a capped product
 pub capped-mul : (a b : ℕ) → capped (a * capped b) ≡ capped (a * b)

@@ -1,4 +1,4 @@
--- `layout::some_persistent` meets its contract.
+-- `colours::some_persistent` meets its contract.
 use borrow.Author.Needs.{needs}
 use native.Mathlib.Omega.{arith}
 use mathlib.Core.Path.{_≡_, refl, sym, ap, _∙_}
@@ -8,9 +8,9 @@ use Prim.Native.Nat.{_+_, _-_, _≤_}
 use lib.Dec.{eqb}
 use lib.ListN.{length, drop}
 use Rattle.lists.specs.Lists.{any}
-use Rattle.layout.proofs.Products.{some-here, some-later, some-end}
-use Rattle.layout.proofs.some_persistent.Statement.{statement}
-use Rattle.layout.proofs.some_persistent.Tie as tie
+use Rattle.colours.proofs.Products.{some-here, some-later, some-end}
+use Rattle.colours.proofs.some_persistent.Statement.{statement}
+use Rattle.colours.proofs.some_persistent.Tie as tie
 
 abbrev Inv-loop : tie.InvT-loop
 Inv-loop flags found₀ i₀ found i = (i ≤ length flags) × (any (eqb 1) flags ≡ (found || any (eqb 1) (drop i flags)))

@@ -1,4 +1,4 @@
--- `layout::first_persistent` meets its contract.
+-- `colours::first_persistent` meets its contract.
 use borrow.Author.Needs.{needs}
 use borrow.Author.Tests.{eq-eqb, ne-eqb}
 use native.Mathlib.Omega.{arith}
@@ -7,10 +7,10 @@ use Prim.Native.Nat.{_+_, _*_, _-_, _≤_}
 use lib.ListN.{length, getD, drop}
 use Rattle.lists.specs.Lists.{index}
 use Rattle.words.specs.Words.{words}
-use Rattle.layout.specs.Colours.{flaggedIn}
-use Rattle.layout.proofs.Products.{search-here, search-later, search-end}
-use Rattle.layout.proofs.first_persistent.Statement.{statement}
-use Rattle.layout.proofs.first_persistent.Tie as tie
+use Rattle.colours.specs.Colours.{flaggedIn}
+use Rattle.colours.proofs.Products.{search-here, search-later, search-end}
+use Rattle.colours.proofs.first_persistent.Statement.{statement}
+use Rattle.colours.proofs.first_persistent.Tie as tie
 
 abbrev Inv-loop : tie.InvT-loop
 Inv-loop flags list i₀ i = (i ≤ length list) × (i + 2 * index (flaggedIn flags) (words (drop i list)) ≡ 2 * index (flaggedIn flags) (words list))

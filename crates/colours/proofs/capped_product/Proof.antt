@@ -1,9 +1,9 @@
--- `layout::capped_product` meets its contract.
+-- `colours::capped_product` meets its contract.
 use native.Mathlib.Omega.{arith}
 use native.Mathlib.Nat.{mul-le-mul}
 use borrow.Author.Needs.{needs}
-use Rattle.layout.proofs.capped_product.Statement.{statement}
-use Rattle.layout.proofs.capped_product.Tie as tie
+use Rattle.colours.proofs.capped_product.Statement.{statement}
+use Rattle.colours.proofs.capped_product.Tie as tie
 
 mul-p : tie.Need-mul-p
 mul-p c =

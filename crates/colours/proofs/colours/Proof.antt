@@ -1,10 +1,10 @@
--- `layout::colours` meets its contract.
+-- `colours::colours` meets its contract.
 use mathlib.Core.Path.{sym, _∙_}
 use Rattle.words.specs.Words.{words}
-use Rattle.layout.proofs.Products.{product-plain, product-read}
+use Rattle.colours.proofs.Products.{product-plain, product-read}
 use borrow.Author.Needs.{needs}
-use Rattle.layout.proofs.colours.Statement.{statement}
-use Rattle.layout.proofs.colours.Tie as tie
+use Rattle.colours.proofs.colours.Statement.{statement}
+use Rattle.colours.proofs.colours.Tie as tie
 
 returns : tie.Need-returns
 returns c =
