@@ -23,7 +23,7 @@ ghost use Rattle.events.specs.Answers.{originOf};
 ghost use Rattle.event_numbers.specs.Answers.{numberOf};
 ghost use Rattle.conditions.specs.Origins.{conditionOriginOf};
 ghost use Rattle.starting.specs.Calls.{unfoldedStartOf, unfoldedStartedOf};
-ghost use Rattle.listed.specs.Calls.{listingOf, listedOf};
+ghost use Rattle.unfolded_lists.specs.Calls.{unfoldedListOf, unfoldedListedOf};
 ghost use Rattle.firing.specs.Calls.{unfoldedFireOf, unfoldedFiredOf};
 ghost use Rattle.lift.specs.Calls.{liftOf, liftedOf};
 ghost use Rattle.project.specs.Calls.{projectOf, projectedOf};
@@ -243,11 +243,11 @@ pub extern "C" fn dovetrellis_unfolded_pre(
     out: &mut [u16],
     count: &mut u64,
 ) -> Answer
-    ensures answer { λ r. ⌜ r ≡ answerOf (listingOf (now (table .entry)) false unfolded (length (now (out .entry)))) ⌝ }
-    ensures after { λ _. ⌜ now (out .exit) ≡ listedOf (now (table .entry)) false unfolded (now (out .entry)) ⌝ }
-    ensures many { λ _. ⌜ now (count .exit) ≡ valueOr (listingOf (now (table .entry)) false unfolded (length (now (out .entry)))) (now (count .entry)) ⌝ }
+    ensures answer { λ r. ⌜ r ≡ answerOf (unfoldedListOf (now (table .entry)) false unfolded (length (now (out .entry)))) ⌝ }
+    ensures after { λ _. ⌜ now (out .exit) ≡ unfoldedListedOf (now (table .entry)) false unfolded (now (out .entry)) ⌝ }
+    ensures many { λ _. ⌜ now (count .exit) ≡ valueOr (unfoldedListOf (now (table .entry)) false unfolded (length (now (out .entry)))) (now (count .entry)) ⌝ }
 {
-    let judged = listed::unfolded_pre(table, UnfoldedEvent(unfolded), out);
+    let judged = unfolded_lists::unfolded_pre(table, UnfoldedEvent(unfolded), out);
     outward::put_value(judged, count);
     outward::told(judged)
 }
@@ -260,11 +260,11 @@ pub extern "C" fn dovetrellis_unfolded_post(
     out: &mut [u16],
     count: &mut u64,
 ) -> Answer
-    ensures answer { λ r. ⌜ r ≡ answerOf (listingOf (now (table .entry)) true unfolded (length (now (out .entry)))) ⌝ }
-    ensures after { λ _. ⌜ now (out .exit) ≡ listedOf (now (table .entry)) true unfolded (now (out .entry)) ⌝ }
-    ensures many { λ _. ⌜ now (count .exit) ≡ valueOr (listingOf (now (table .entry)) true unfolded (length (now (out .entry)))) (now (count .entry)) ⌝ }
+    ensures answer { λ r. ⌜ r ≡ answerOf (unfoldedListOf (now (table .entry)) true unfolded (length (now (out .entry)))) ⌝ }
+    ensures after { λ _. ⌜ now (out .exit) ≡ unfoldedListedOf (now (table .entry)) true unfolded (now (out .entry)) ⌝ }
+    ensures many { λ _. ⌜ now (count .exit) ≡ valueOr (unfoldedListOf (now (table .entry)) true unfolded (length (now (out .entry)))) (now (count .entry)) ⌝ }
 {
-    let judged = listed::unfolded_post(table, UnfoldedEvent(unfolded), out);
+    let judged = unfolded_lists::unfolded_post(table, UnfoldedEvent(unfolded), out);
     outward::put_value(judged, count);
     outward::told(judged)
 }

@@ -24,7 +24,7 @@ use Rattle.event_numbers.specs.Answers as unfolded
 use Rattle.events.specs.Answers.{originJudged}
 use Rattle.condition_numbers.specs.Answers.{numbered}
 use Rattle.conditions.specs.Origins.{conditionJudged, originNumber}
-use Rattle.listed.specs.Calls.{listingOf, listedOf}
+use Rattle.unfolded_lists.specs.Calls.{unfoldedListOf, unfoldedListedOf}
 use Rattle.starting.specs.Calls.{unfoldedStartOf, unfoldedStartedOf}
 use Rattle.firing.specs.Calls.{unfoldedFireOf, unfoldedFiredOf}
 use Rattle.lift.specs.Calls.{liftOf, liftedOf}
@@ -65,8 +65,8 @@ use Rattle.asking.proofs.postconditions.Reads as postconditions
 use Rattle.asking.proofs.start.Reads as table-start
 use Rattle.listing.proofs.read_files.Reads as read-files
 use Rattle.listing.proofs.write.Reads as write-piece
-use Rattle.listed.proofs.unfolded_pre.Reads as unfolded-pre
-use Rattle.listed.proofs.unfolded_post.Reads as unfolded-post
+use Rattle.unfolded_lists.proofs.unfolded_pre.Reads as unfolded-pre
+use Rattle.unfolded_lists.proofs.unfolded_post.Reads as unfolded-post
 use Rattle.starting.proofs.unfolded_start.Reads as unfolded-start
 use Rattle.firing.proofs.unfolded_fire.Reads as unfolded-fire
 use Rattle.lift.proofs.lift.Reads as lift
@@ -228,14 +228,14 @@ write-piece-refused κs a r x h =
     late-refused ofPiece r (pieceOf (a .0) (now (a .1 .0)) (length (now (a .1 .1 .0)))) _ (now (a .1 .1 .0)) (now (x .1 .1 .0)) (h .0) (piece-listed (a .0) (now (a .1 .0)) (length (now (a .1 .1 .0)))) (h .1)
 
 pub unfolded-pre-refused : (κs : _) (a : _) (r : _) (x : _) → unfolded-pre.Learnt κs a r x → Refusing ofListing r (now (a .1 .1 .0)) (now (x .1 .1 .0))
-unfolding listedOf
+unfolding unfoldedListedOf
 unfolded-pre-refused κs a r x h =
-    written-refused ofListing r (listingOf (now (a .0)) false (a .1 .0 .0) (length (now (a .1 .1 .0)))) _ (now (a .1 .1 .0)) (now (x .1 .1 .0)) (h .0) (listing-listed (now (a .0)) false (a .1 .0 .0) (length (now (a .1 .1 .0)))) (h .1)
+    written-refused ofListing r (unfoldedListOf (now (a .0)) false (a .1 .0 .0) (length (now (a .1 .1 .0)))) _ (now (a .1 .1 .0)) (now (x .1 .1 .0)) (h .0) (listing-listed (now (a .0)) false (a .1 .0 .0) (length (now (a .1 .1 .0)))) (h .1)
 
 pub unfolded-post-refused : (κs : _) (a : _) (r : _) (x : _) → unfolded-post.Learnt κs a r x → Refusing ofListing r (now (a .1 .1 .0)) (now (x .1 .1 .0))
-unfolding listedOf
+unfolding unfoldedListedOf
 unfolded-post-refused κs a r x h =
-    written-refused ofListing r (listingOf (now (a .0)) true (a .1 .0 .0) (length (now (a .1 .1 .0)))) _ (now (a .1 .1 .0)) (now (x .1 .1 .0)) (h .0) (listing-listed (now (a .0)) true (a .1 .0 .0) (length (now (a .1 .1 .0)))) (h .1)
+    written-refused ofListing r (unfoldedListOf (now (a .0)) true (a .1 .0 .0) (length (now (a .1 .1 .0)))) _ (now (a .1 .1 .0)) (now (x .1 .1 .0)) (h .0) (listing-listed (now (a .0)) true (a .1 .0 .0) (length (now (a .1 .1 .0)))) (h .1)
 
 pub unfolded-start-refused : (κs : _) (a : _) (r : _) (x : _) → unfolded-start.Learnt κs a r x → Refusing ofStart r (now (a .1 .0)) (now (x .1 .0))
 unfolding unfoldedStartedOf

@@ -35,7 +35,7 @@ use Rattle.conditions.specs.declared.ConditionOrigin.{ConditionOrigin}
 use Rattle.conditions.specs.declared.ConditionOrigin.the-variants as show
 use Rattle.condition_numbers.specs.Answers.{numbered}
 use Rattle.conditions.specs.Origins.{conditionAt, conditionJudged, toldIf, conditionOriginOf, originNumber}
-use Rattle.listed.specs.Calls.{listingOf, listedOf}
+use Rattle.unfolded_lists.specs.Calls.{unfoldedListOf, unfoldedListedOf}
 use Rattle.starting.specs.Calls.{unfoldedStartOf, unfoldedStartedOf}
 use Rattle.firing.specs.Calls.{unfoldedFireOf, unfoldedFiredOf}
 use Rattle.lift.specs.Calls.{liftOf, liftedOf}
@@ -257,14 +257,14 @@ dovetrellis-condition-number-refused κs a r x h =
     told-refused ofNumbering (conditionFor (now (a .0)) (a .1 .0) (a .1 .1 .0) (a .1 .1 .1 .0) (a .1 .1 .1 .1 .0)) r (h .0) (condition-for-listed (now (a .0)) (a .1 .0) (a .1 .1 .0) (a .1 .1 .1 .0) (a .1 .1 .1 .1 .0)) (λ y g. value-kept _ (now (a .1 .1 .1 .1 .1 .0)) (now (x .1 .1 .1 .1 .1 .0)) (h .1) g)
 
 pub dovetrellis-unfolded-pre-refused : (κs : _) (a : _) (r : _) (x : _) → dovetrellis-unfolded-pre.Learnt κs a r x → Telling ofListing r ((now (x .1 .1 .0) ≡ now (a .1 .1 .0)) × (now (x .1 .1 .1 .0) ≡ now (a .1 .1 .1 .0)))
-unfolding listedOf
+unfolding unfoldedListedOf
 dovetrellis-unfolded-pre-refused κs a r x h =
-    told-refused ofListing (listingOf (now (a .0)) false (a .1 .0) (length (now (a .1 .1 .0)))) r (h .0) (listing-listed (now (a .0)) false (a .1 .0) (length (now (a .1 .1 .0)))) (λ y g. (written-kept _ _ (now (a .1 .1 .0)) (now (x .1 .1 .0)) (h .1 .0) g, value-kept _ (now (a .1 .1 .1 .0)) (now (x .1 .1 .1 .0)) (h .1 .1) g))
+    told-refused ofListing (unfoldedListOf (now (a .0)) false (a .1 .0) (length (now (a .1 .1 .0)))) r (h .0) (listing-listed (now (a .0)) false (a .1 .0) (length (now (a .1 .1 .0)))) (λ y g. (written-kept _ _ (now (a .1 .1 .0)) (now (x .1 .1 .0)) (h .1 .0) g, value-kept _ (now (a .1 .1 .1 .0)) (now (x .1 .1 .1 .0)) (h .1 .1) g))
 
 pub dovetrellis-unfolded-post-refused : (κs : _) (a : _) (r : _) (x : _) → dovetrellis-unfolded-post.Learnt κs a r x → Telling ofListing r ((now (x .1 .1 .0) ≡ now (a .1 .1 .0)) × (now (x .1 .1 .1 .0) ≡ now (a .1 .1 .1 .0)))
-unfolding listedOf
+unfolding unfoldedListedOf
 dovetrellis-unfolded-post-refused κs a r x h =
-    told-refused ofListing (listingOf (now (a .0)) true (a .1 .0) (length (now (a .1 .1 .0)))) r (h .0) (listing-listed (now (a .0)) true (a .1 .0) (length (now (a .1 .1 .0)))) (λ y g. (written-kept _ _ (now (a .1 .1 .0)) (now (x .1 .1 .0)) (h .1 .0) g, value-kept _ (now (a .1 .1 .1 .0)) (now (x .1 .1 .1 .0)) (h .1 .1) g))
+    told-refused ofListing (unfoldedListOf (now (a .0)) true (a .1 .0) (length (now (a .1 .1 .0)))) r (h .0) (listing-listed (now (a .0)) true (a .1 .0) (length (now (a .1 .1 .0)))) (λ y g. (written-kept _ _ (now (a .1 .1 .0)) (now (x .1 .1 .0)) (h .1 .0) g, value-kept _ (now (a .1 .1 .1 .0)) (now (x .1 .1 .1 .0)) (h .1 .1) g))
 
 pub dovetrellis-unfolded-start-refused : (κs : _) (a : _) (r : _) (x : _) → dovetrellis-unfolded-start.Learnt κs a r x → Telling ofStart r (now (x .1 .0) ≡ now (a .1 .0))
 unfolding unfoldedStartedOf

@@ -45,8 +45,8 @@ use Rattle.conditions.proofs.condition_origin.Reads as condition-origin
 use Rattle.asking.proofs.preconditions.Reads as preconditions
 use Rattle.asking.proofs.postconditions.Reads as postconditions
 use Rattle.asking.proofs.start.Reads as table-start
-use Rattle.listed.proofs.unfolded_pre.Reads as unfolded-pre
-use Rattle.listed.proofs.unfolded_post.Reads as unfolded-post
+use Rattle.unfolded_lists.proofs.unfolded_pre.Reads as unfolded-pre
+use Rattle.unfolded_lists.proofs.unfolded_post.Reads as unfolded-post
 use Rattle.starting.proofs.unfolded_start.Reads as unfolded-start
 use Rattle.firing.proofs.unfolded_fire.Reads as unfolded-fire
 use Rattle.lift.proofs.lift.Reads as lift

@@ -46,7 +46,7 @@ use Rattle.reader.specs.Read.{recordOf}
 use Rattle.asking.specs.Calls.{preconditionsOf, postconditionsOf, startOf}
 use Rattle.listing.specs.declared.Piece.{Piece}
 use Rattle.listing.specs.Calls.{mostNetBytes, mostRunBytes, textOf, pieceOf, filesOf}
-use Rattle.listed.specs.Calls.{listingOf}
+use Rattle.unfolded_lists.specs.Calls.{unfoldedListOf}
 use Rattle.starting.specs.Calls.{unfoldedStartOf}
 use Rattle.firing.specs.Calls.{unfoldedFireOf}
 use Rattle.promises.specs.Refused.{ofList, ofTableStart, ofFiles, ofPiece, ofListing, ofStart, ofUnfoldedFiring, ofTable, ofFiring, ofReplay, ofReplayFrom, ofExchange, ofUnfolding, ofLift, ofProject, ofReading, ofWriting, listed}
@@ -303,8 +303,8 @@ unfolding-of-listed l s own h t =
     table-in : (l : List ℕ) → T (all (λ x. mem x l) ofUnfolding) → T (all (λ x. mem x l) ofTable)
     table-in l h = all-of (λ x. mem x l) ofTable (λ k t. all-at (λ x. mem x l) ofUnfolding h k (all-at (λ x. mem x ofUnfolding) ofTable tt k t))
 
-pub listing-listed : (s : List ℕ) (post : Bool) (j room : ℕ) → T (listed ofListing (listingOf s post j room))
-unfolding listingOf
+pub listing-listed : (s : List ℕ) (post : Bool) (j room : ℕ) → T (listed ofListing (unfoldedListOf s post j room))
+unfolding unfoldedListOf
 listing-listed s post j room = unfolding-of-listed ofListing s _ tt (listed-need ofListing _ 10 0 _ tt (listed-fitting ofListing _ room tt))
 
 pub unfolded-start-listed : (s : List ℕ) (room : ℕ) → T (listed ofStart (unfoldedStartOf s room))

@@ -22,19 +22,19 @@ use Rattle.tally.specs.Having.{listOf}
 use Rattle.layout.specs.Unfolds.{unfoldingOf}
 use Rattle.unfolding.specs.Numbers.{Owner}
 use Rattle.unfolding.proofs.Numbered.{events-basic, origin-low}
-use Rattle.listed.specs.Calls.{listingOf, listedOf}
+use Rattle.unfolded_lists.specs.Calls.{unfoldedListOf, unfoldedListedOf}
 use Rattle.segments.specs.Ranges.{ranged, Ranges}
 use Rattle.segments.proofs.Ranged.{ranged-length}
 
 module _ (s : List ℕ) (post : Bool) (j : ℕ) (out : List ℕ) where
   -- a refusal leaves the output
-  pub kept : {x : Refusal} → listingOf s post j (length out) ≡ Refused x → out ≡ listedOf s post j out
-  unfolding listedOf
+  pub kept : {x : Refusal} → unfoldedListOf s post j (length out) ≡ Refused x → out ≡ unfoldedListedOf s post j out
+  unfolding unfoldedListedOf
   kept e = sym (ap (λ (a : Judged). written a (listOf (basic (netOf s)) post j) out) e)
 
   module _ (u : (own : Judged) → unfoldingOf s own ≡ own) where
-    pub listing-past : eventCount (netOf s) ≤ j → refusedAt 10 0 ≡ listingOf s post j (length out)
-    unfolding listingOf
+    pub listing-past : eventCount (netOf s) ≤ j → refusedAt 10 0 ≡ unfoldedListOf s post j (length out)
+    unfolding unfoldedListOf
     listing-past h =
         sym (u _ ∙ need-refuses 10 0 (fitting (length (listOf (basic (netOf s)) post j)) (length out)) (le-ltb j (basic (netOf s) .events) (omega (arith, events-basic (netOf s)))))
 
@@ -49,18 +49,18 @@ module _ (s : List ℕ) (post : Bool) (j : ℕ) (out : List ℕ) where
       there : ltb j (basic (netOf s) .events) ≡ true
       there = ap (λ (i : ℕ). ltb i (basic (netOf s) .events)) (sym (o .left)) ∙ origin-low (netOf s) e rest (o .event) (omega (arith, o .whole, o .below))
 
-      is-fitting : listingOf s post j (length out) ≡ fitting (length (listOf (basic (netOf s)) post j)) (length out)
-      unfolding listingOf
+      is-fitting : unfoldedListOf s post j (length out) ≡ fitting (length (listOf (basic (netOf s)) post j)) (length out)
+      unfolding unfoldedListOf
       is-fitting = u _ ∙ need-passes 10 0 there
 
-      pub listing-short : length out < k → refusedAt 16 k ≡ listingOf s post j (length out)
+      pub listing-short : length out < k → refusedAt 16 k ≡ unfoldedListOf s post j (length out)
       listing-short h = sym (is-fitting ∙ rw (← z) (fitting-short k (length out) h))
 
-      pub listing-fine : k ≤ length out → Fine k ≡ listingOf s post j (length out)
+      pub listing-fine : k ≤ length out → Fine k ≡ unfoldedListOf s post j (length out)
       listing-fine h = sym (is-fitting ∙ rw (← z) (fitting-room k (length out) h))
 
-      pub listed-fine : k ≤ length out → sets out 0 (ranged starts sizes r) ≡ listedOf s post j out
-      unfolding listedOf
+      pub listed-fine : k ≤ length out → sets out 0 (ranged starts sizes r) ≡ unfoldedListedOf s post j out
+      unfolding unfoldedListedOf
       listed-fine h =
           ap (sets out 0) list-is
           ∙ stored-whole (listOf (basic (netOf s)) post j) out (omega (arith, z))

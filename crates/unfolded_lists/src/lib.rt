@@ -9,8 +9,8 @@ ghost use lib.ListN.{length, getD};
 ghost use lib.Seq.{sets};
 ghost use Rattle.lists.specs.Lists.{count, sum};
 ghost use Rattle.segments.specs.Ranges.{ranged};
-ghost use Rattle.listed.specs.Calls.{listingOf, listedOf};
-ghost use Rattle.listed.specs.Puts.{Small, Fits};
+ghost use Rattle.unfolded_lists.specs.Calls.{unfoldedListOf, unfoldedListedOf};
+ghost use Rattle.unfolded_lists.specs.Puts.{Small, Fits};
 
 // The sum of so many sizes.
 fn total(sizes: &[u32], ranges: usize) -> usize
@@ -57,8 +57,8 @@ fn put_ranges<'a>(starts: &'a [u32], sizes: &'a [u32], ranges: usize, out: &mut 
 
 // One list of an unfolded event, written into a lent output.
 fn write_list(table: &[u8], j: UnfoldedEvent, post: bool, out: &mut [u16]) -> Judged
-    ensures answer { λ r. ⌜ r ≡ listingOf (now (table .entry)) post (j .0) (length (now (out .entry))) ⌝ }
-    ensures after { λ _. ⌜ now (out .exit) ≡ listedOf (now (table .entry)) post (j .0) (now (out .entry)) ⌝ }
+    ensures answer { λ r. ⌜ r ≡ unfoldedListOf (now (table .entry)) post (j .0) (length (now (out .entry))) ⌝ }
+    ensures after { λ _. ⌜ now (out .exit) ≡ unfoldedListedOf (now (table .entry)) post (j .0) (now (out .entry)) ⌝ }
 {
     let mut markers = [0u32; 256];
     let mut users = [0u32; 256];
@@ -95,16 +95,16 @@ fn write_list(table: &[u8], j: UnfoldedEvent, post: bool, out: &mut [u16]) -> Ju
 
 // The preconditions of an unfolded event, ascending, in a lent output.
 pub fn unfolded_pre(table: &[u8], j: UnfoldedEvent, out: &mut [u16]) -> Judged
-    ensures answer { λ r. ⌜ r ≡ listingOf (now (table .entry)) false (j .0) (length (now (out .entry))) ⌝ }
-    ensures after { λ _. ⌜ now (out .exit) ≡ listedOf (now (table .entry)) false (j .0) (now (out .entry)) ⌝ }
+    ensures answer { λ r. ⌜ r ≡ unfoldedListOf (now (table .entry)) false (j .0) (length (now (out .entry))) ⌝ }
+    ensures after { λ _. ⌜ now (out .exit) ≡ unfoldedListedOf (now (table .entry)) false (j .0) (now (out .entry)) ⌝ }
 {
     write_list(table, j, false, out)
 }
 
 // The postconditions of an unfolded event, ascending, in a lent output.
 pub fn unfolded_post(table: &[u8], j: UnfoldedEvent, out: &mut [u16]) -> Judged
-    ensures answer { λ r. ⌜ r ≡ listingOf (now (table .entry)) true (j .0) (length (now (out .entry))) ⌝ }
-    ensures after { λ _. ⌜ now (out .exit) ≡ listedOf (now (table .entry)) true (j .0) (now (out .entry)) ⌝ }
+    ensures answer { λ r. ⌜ r ≡ unfoldedListOf (now (table .entry)) true (j .0) (length (now (out .entry))) ⌝ }
+    ensures after { λ _. ⌜ now (out .exit) ≡ unfoldedListedOf (now (table .entry)) true (j .0) (now (out .entry)) ⌝ }
 {
     write_list(table, j, true, out)
 }

@@ -1,4 +1,4 @@
--- `listed::put_range` meets its contract.
+-- `unfolded_lists::put_range` meets its contract.
 use native.Mathlib.Omega.{arith}
 use mathlib.Core.Path.{_≡_, refl, _∙_, sym}
 use Prim.Native.Nat.{_+_, _-_, _≤_}
@@ -7,8 +7,8 @@ use lib.Seq.{sets}
 use Rattle.lists.specs.Lists.{count}
 use Rattle.segments.proofs.Ranged.{put-on, put-end, put-start}
 use borrow.Author.Needs.{needs}
-use Rattle.listed.proofs.put_range.Statement.{statement}
-use Rattle.listed.proofs.put_range.Tie as tie
+use Rattle.unfolded_lists.proofs.put_range.Statement.{statement}
+use Rattle.unfolded_lists.proofs.put_range.Tie as tie
 
 abbrev Inv-loop : tie.InvT-loop
 Inv-loop first size at out₀ i₀ out i =

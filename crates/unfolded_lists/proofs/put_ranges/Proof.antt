@@ -1,4 +1,4 @@
--- `listed::put_ranges` meets its contract.
+-- `unfolded_lists::put_ranges` meets its contract.
 use native.Mathlib.Omega.{arith}
 use mathlib.Core.Path.{_≡_, refl, _∙_, sym, ap}
 use mathlib.Core.List.{List}
@@ -10,8 +10,8 @@ use Rattle.lists.specs.Lists.{mem}
 use Rattle.segments.specs.Ranges.{rangedFrom, ranged}
 use Rattle.segments.proofs.Ranged.{ranged-whole, ranged-end, first-there, others-there, length-on, put-next}
 use borrow.Author.Needs.{needs}
-use Rattle.listed.proofs.put_ranges.Statement.{statement}
-use Rattle.listed.proofs.put_ranges.Tie as tie
+use Rattle.unfolded_lists.proofs.put_ranges.Statement.{statement}
+use Rattle.unfolded_lists.proofs.put_ranges.Tie as tie
 
 abbrev Inv-loop : tie.InvT-loop
 Inv-loop starts sizes ranges out₀ at₀ i₀ out at i =

@@ -1,4 +1,4 @@
--- `listed::write_list` meets its contract.
+-- `unfolded_lists::write_list` meets its contract.
 use native.Mathlib.Omega.{arith}
 use mathlib.Core.Path.{_≡_, _∙_, sym, subst}
 use lib.Dec.{ltb}
@@ -14,16 +14,16 @@ use Rattle.layout.proofs.Limits.{unfolds-passed, unfolds-on}
 use Rattle.unfolding.specs.Numbers.{Belongs}
 use Rattle.unfolding.specs.declared.Found.{Found}
 use Rattle.unfolding.proofs.Owners.{within-laid}
-use Rattle.listed.specs.Calls.{listingOf}
-use Rattle.listed.proofs.Answers.{kept, listing-past, listing-short, listing-fine, listed-fine}
+use Rattle.unfolded_lists.specs.Calls.{unfoldedListOf}
+use Rattle.unfolded_lists.proofs.Answers.{kept, listing-past, listing-short, listing-fine, listed-fine}
 use Rattle.segments.proofs.Ranged.{ranged-length}
 use Rattle.segments.proofs.Listed.{owned-by, ranges-by}
 use borrow.Author.Needs.{needs}
-use Rattle.listed.proofs.write_list.Statement.{statement}
-use Rattle.listed.proofs.write_list.Tie as tie
+use Rattle.unfolded_lists.proofs.write_list.Statement.{statement}
+use Rattle.unfolded_lists.proofs.write_list.Tie as tie
 
 returns : tie.Need-returns
-unfolding listingOf
+unfolding unfoldedListOf
 returns c =
     let n = netOf (c .before .before .before .before .before .before .before .before .before .before .before .args .table .now) in
     let own = need (ltb (c .before .before .before .before .before .before .before .before .before .before .before .args .j .0) (basic n .events)) 10 0 (fitting (length (listOf (basic n) (c .before .before .before .before .before .before .before .before .before .before .before .args .post) (c .before .before .before .before .before .before .before .before .before .before .before .args .j .0))) (length (c .before .before .before .before .before .before .before .before .before .before .before .args .out .now))) in
