@@ -2,22 +2,8 @@
 use libc::STDOUT_FILENO;
 use lines::Place;
 use refusal::Judged;
-ghost use Rattle.io.specs.Counts.{Counts};
 ghost use Rattle.lines.specs.Needs.{Ready};
 ghost use Rattle.lines.specs.declared.Place.the-variants.{Start};
-
-// A file read into a buffer, as far as there is room; one that cannot be opened or read is empty.
-fn read_file(path: &[u8], buffer: &mut [u8]) -> usize
-    ensures { λ r. ⌜ Counts r (now (buffer .exit)) ⌝ }
-{
-    let fd = os::open_read(path);
-    if fd < 0 {
-        return 0;
-    }
-    let n = io::read_full(fd, buffer);
-    libc::close(fd);
-    n
-}
 
 // The line of a refusal written out.
 fn refuse(answer: Judged) {
@@ -95,7 +81,7 @@ fn list<'a>(net: &'a [u8], run: &'a [u8]) {
 fn main() {
     let mut net = [0u8; 65537];
     let mut run = [0u8; 8197];
-    let n = read_file(b"net.bin", &mut net);
-    let m = read_file(b"run.bin", &mut run);
+    let n = files::read_file(b"net.bin", &mut net);
+    let m = files::read_file(b"run.bin", &mut run);
     list(&net[..n], &run[..m]);
 }
