@@ -1,0 +1,23 @@
+-- The id between what begins a transition and what ends it.
+use borrow.Author.Needs.{needs}
+use Rattle.pnml.specs.Text.{textOf}
+use Rattle.spelling.proofs.Texts.{both}
+use Rattle.pnml.proofs.put_transition.Statement.{statement}
+use Rattle.pnml.proofs.put_transition.Tie as tie
+
+returns : tie.Need-returns
+unfolding textOf
+returns c =
+    both (both (c .before .before .before .before .before .before .before .before .before .before .before .put-text .ensures) (c .before .before .before .before .before .before .before .put-transition-name .ensures .0)) (c .before .before .put-text2 .ensures)
+
+pub put-transition-spec : {M : Type 1} → statement M
+put-transition-spec =
+    tie.close
+    (tie.spec
+    (λ c. search needs)
+    (λ c κs. search needs)
+    (λ c κs. search needs)
+    (λ c. search needs)
+    (λ c κs. search needs)
+    (λ c. search needs)
+    returns)
