@@ -10,6 +10,7 @@ pub mod generator;
 pub mod lent;
 pub mod lines;
 pub mod listing;
+pub mod plain;
 pub mod records;
 pub mod refusal;
 pub mod table;
