@@ -1,6 +1,7 @@
 //! The calls on a table: each judges the table first, then what it was lent, in the order of 01, Refusal numbers.
 
 use crate::across::{lifted, projected};
+use crate::export::Doubled;
 use crate::game::{exchanged, fire, play, Game};
 use crate::lent::{marking_bytes, read_marking, write_answer};
 use crate::records::MOST_STEPS;
@@ -270,4 +271,19 @@ pub fn lifted_end(table: &[u8], run: &[u16], end: &mut [u8]) -> Answer<usize> {
 pub fn project(table: &[u8], run: &[u16], output: &mut [u16]) -> Answer<usize> {
     let (_, unfolding) = unfolding_for_run(table, run)?;
     write_answer(&projected(&unfolding, run)?, output)
+}
+
+// ---- the export
+
+/// The number of elements of the export.
+pub fn element_count(table: &[u8]) -> Answer<u64> {
+    let (_, unfolding) = unfolding_of(table)?;
+    Ok(Doubled::of(&unfolding).element_count())
+}
+
+/// Writes the text of one element of the export.
+pub fn element(table: &[u8], number: u64, output: &mut [u8]) -> Answer<usize> {
+    let (_, unfolding) = unfolding_of(table)?;
+    let text = known(Doubled::of(&unfolding).element(number))?;
+    write_answer(text.as_bytes(), output)
 }

@@ -4,6 +4,7 @@ use crate::game::{fire, Game};
 use crate::records::{record_bytes, word_bytes, CONDITIONS, EVENT, HEADER, MARKING};
 use crate::refusal::Refusal;
 use crate::table::{event_bytes, table_records, Event, Net, MOST_EVENTS, MOST_PERSISTENT};
+use crate::unfolding::{counts, unfold, Unfolding};
 
 /// A small generator of random numbers (SplitMix64); equal seeds give equal numbers.
 pub struct Random {
@@ -146,6 +147,22 @@ pub fn small_net(random: &mut Random) -> Net {
         held: [30, 50, 70][random.below(3)],
     };
     shaped_net(random, &shape)
+}
+
+/// The most unfolded events of a small unfolding, so that all that it reaches can be looked at.
+const MOST_SMALL: u128 = 300;
+
+/// A small net that unfolds, with its unfolding, which is small too.
+pub fn small_unfolding(random: &mut Random) -> (Net, Unfolding) {
+    loop {
+        let net = small_net(random);
+        if counts(&net).events > MOST_SMALL {
+            continue;
+        }
+        if let Ok(unfolding) = unfold(&net) {
+            return (net, unfolding);
+        }
+    }
 }
 
 /// A net of some conditions and events, most of which unfold to at most some thousand.

@@ -5,6 +5,7 @@
 
 pub mod across;
 pub mod calls;
+pub mod export;
 pub mod game;
 pub mod generator;
 pub mod lent;

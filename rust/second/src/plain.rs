@@ -204,3 +204,72 @@ pub fn read_nets(text: &str) -> Result<Vec<Named>, String> {
     }
     readings.into_iter().map(Reading::finished).collect()
 }
+
+// ---- against the unfolded net
+
+impl Named {
+    /// The net with its parts in the order of the export: places p0, p1 and on, then q0, q1 and on, and transitions t0, t1 and on; none
+    /// where there are not exactly these.
+    pub fn in_order(&self, conditions: usize, events: usize) -> Option<Plain> {
+        let ids = |letter: char, count: usize| (0..count).map(move |n| format!("{letter}{n}"));
+        let places = ids('p', conditions).chain(ids('q', conditions));
+        let places = order(places, &self.places)?;
+        let transitions = order(ids('t', events), &self.transitions)?;
+        let mut number = vec![0; places.len()];
+        for (new, old) in places.iter().enumerate() {
+            number[*old] = new;
+        }
+        let renumbered = |list: &[usize]| list.iter().map(|place| number[*place]).collect();
+        let transition = |old: &usize| {
+            let transition = &self.plain.transitions[*old];
+            Transition {
+                taken: renumbered(&transition.taken),
+                put: renumbered(&transition.put),
+            }
+        };
+        Some(Plain {
+            tokens: places.iter().map(|old| self.plain.tokens[*old]).collect(),
+            transitions: transitions.iter().map(transition).collect(),
+        })
+    }
+}
+
+/// The place of each wanted id in a list of different ids; none where the list has not exactly these.
+fn order(wanted: impl Iterator<Item = String>, ids: &[String]) -> Option<Vec<usize>> {
+    let places: BTreeMap<&String, usize> = ids.iter().zip(0..).collect();
+    let order: Option<Vec<usize>> = wanted.map(|id| places.get(&id).copied()).collect();
+    order.filter(|order| order.len() == ids.len())
+}
+
+/// The marking of the doubled net that corresponds to an unfolded marking: of a condition's two places exactly one has a token, the
+/// first where the condition holds.
+fn doubled_marking(marking: &[bool]) -> Vec<u64> {
+    let first = marking.iter().map(|holds| u64::from(*holds));
+    let second = marking.iter().map(|holds| u64::from(!holds));
+    first.chain(second).collect()
+}
+
+/// What two nets that agree reached.
+#[derive(Clone, Copy, Debug, PartialEq, Eq)]
+pub struct Agreed {
+    pub markings: usize,
+    pub whole: bool,
+}
+
+/// Compares the unfolded net, played with contact, with a plain net of the export's order, played without capacities: they must reach
+/// corresponding markings by the same firings. Says what differs.
+pub fn compare(unfolding: &Unfolding, plain: &Plain, most: usize) -> Result<Agreed, String> {
+    let one = reached_unfolded(unfolding, most);
+    let other = plain.reached(most);
+    let markings: Vec<Vec<u64>> = one.markings.iter().map(|m| doubled_marking(m)).collect();
+    if markings != other.markings {
+        return Err("the reachable markings differ".to_string());
+    }
+    if one.steps != other.steps || one.whole != other.whole {
+        return Err("the firings between the markings differ".to_string());
+    }
+    Ok(Agreed {
+        markings: markings.len(),
+        whole: one.whole,
+    })
+}
