@@ -243,7 +243,7 @@ fn order(wanted: impl Iterator<Item = String>, ids: &[String]) -> Option<Vec<usi
 
 /// The marking of the doubled net that corresponds to an unfolded marking: of a condition's two places exactly one has a token, the
 /// first where the condition holds.
-fn doubled_marking(marking: &[bool]) -> Vec<u64> {
+pub fn doubled_marking(marking: &[bool]) -> Vec<u64> {
     let first = marking.iter().map(|holds| u64::from(*holds));
     let second = marking.iter().map(|holds| u64::from(!holds));
     first.chain(second).collect()

@@ -1,10 +1,12 @@
 //! The tests of the second implementation, by subject.
 
 mod common;
+mod export;
 mod limits;
 mod lines;
 mod listing;
 mod nets;
+mod plain;
 mod properties;
 mod readings;
 mod records;
