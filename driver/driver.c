@@ -163,7 +163,7 @@ static struct dovetrellis_answer call_numbers(uint64_t which, const uint64_t *as
     return answer;
 }
 
-/* Makes a call on the unfolding, on a run across, or on a record. */
+/* Makes a call on the unfolding, on a run across, on a record, or on the export. */
 static struct dovetrellis_answer call_unfolding(uint64_t which, const uint64_t *asked, uint64_t *values) {
     uint16_t unfolded = (uint16_t)asked[0];
     switch (which) {
@@ -180,6 +180,8 @@ static struct dovetrellis_answer call_unfolding(uint64_t which, const uint64_t *
     case 23: return dovetrellis_read_lifted(GIVEN8, LENT16, &values[0]);
     case 24: return dovetrellis_write_run(GIVEN16, LENT8, &values[0]);
     case 25: return dovetrellis_write_lifted(GIVEN16, LENT8, &values[0]);
+    case 26: return dovetrellis_element_count(TABLE, &values[0]);
+    case 27: return dovetrellis_element(TABLE, asked[0], LENT8, &values[0]);
     default: _exit(2);
     }
 }

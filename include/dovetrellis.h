@@ -1,5 +1,6 @@
 /*
- * Dovetrellis for C: net tables with persistent conditions, judged, played, unfolded, and their runs taken across.
+ * Dovetrellis for C: net tables with persistent conditions, judged, played, unfolded, their runs taken across, and the unfolded net
+ * exported.
  *
  * Every call is proved, is given all that it works on, and keeps nothing: no allocation, no global state, no pointer kept after the
  * return. Calls may run at once in several threads as long as none writes memory that another one is given.
@@ -29,7 +30,8 @@
  *    7  an event with both lists empty                           the record's offset
  *    8  over 16 persistent preconditions                         the record's offset
  *    9  bytes after the last record                              their offset
- *   10  no such event, condition, marker, colour or step         0; in a run, the step
+ *   10  no such event, condition, marker, colour, step           0; in a run, the step
+ *       or element
  *   11  a precondition does not hold                             0; in a run, the step
  *   12  contact                                                  0; in a run, the step
  *   13  an event touches nothing once unfolded                   the lowest such event
@@ -43,8 +45,8 @@
  * The refusals of a call come in the order in which its comment lists them: the first that applies is given. At one step of a run 10
  * comes before 11 and 11 before 12; all steps come before what is listed after them. "The table's" are 1 to 9.
  *
- * A table is the bytes of its records (docs/FORMAT.md). A marking is one byte for each condition, 0 or 1. Events, conditions and
- * their unfolded forms are numbered from 0.
+ * A table is the bytes of its records (docs/FORMAT.md). A marking is one byte for each condition, 0 or 1. Events, conditions, their
+ * unfolded forms and the elements of the export are numbered from 0.
  */
 #ifndef DOVETRELLIS_H
 #define DOVETRELLIS_H
@@ -221,6 +223,23 @@ struct dovetrellis_answer dovetrellis_write_run(const uint16_t *run, size_t run_
 /* Writes a Lifted record: its bytes, 4 and 2 for each step, and their count. Refusals: 3 at 0, 16 (counts bytes). */
 struct dovetrellis_answer dovetrellis_write_lifted(const uint16_t *lifted, size_t lifted_length, uint8_t *out, size_t out_length,
                                                    uint64_t *count);
+
+/* ---- the export ---- */
+
+/*
+ * The number of elements of the export: the text of the unfolded net for model checkers, one place/transition net in PNML (ISO/IEC
+ * 15909-2, type ptnet). Such nets have no contact, so each unfolded condition c has two places: pc, and qc, which holds a token exactly
+ * when pc does not. Elements are, in this order: all that opens; the places p0, p1 and on; the places q0, q1 and on; the transitions;
+ * the arcs; all that closes. One after another, with nothing between them, they are the file. Refusals: the table's, 13, 14.
+ */
+struct dovetrellis_answer dovetrellis_element_count(const uint8_t *table, size_t table_length, uint64_t *count);
+
+/*
+ * The text of an element: its bytes, with no zero byte after them, and their count.
+ * Refusals: the table's, 13, 14, 10, 16 (counts bytes).
+ */
+struct dovetrellis_answer dovetrellis_element(const uint8_t *table, size_t table_length, uint64_t element, uint8_t *out,
+                                              size_t out_length, uint64_t *count);
 
 #ifdef __cplusplus
 }

@@ -10,11 +10,12 @@ use second::unfolding::{
 };
 use wire::{Call, Request, START};
 
+use crate::elements::{any_exported_table, ask_element};
 use crate::expected::{double_word_bytes, marker_word};
 use crate::nets::{any_number, any_table, Asked};
 
 /// Each call as often as this says, of their sum.
-const OFTEN: [(Call, usize); 26] = [
+const OFTEN: [(Call, usize); 28] = [
     (Call::Judge, 6),
     (Call::Counts, 3),
     (Call::Pre, 4),
@@ -41,6 +42,8 @@ const OFTEN: [(Call, usize); 26] = [
     (Call::ReadLifted, 3),
     (Call::WriteRun, 2),
     (Call::WriteLifted, 2),
+    (Call::ElementCount, 2),
+    (Call::Element, 8),
 ];
 
 /// Unfolded nets of at most this many events are walked in; in larger ones, runs are lifted.
@@ -453,14 +456,21 @@ pub fn case(seed: u64) -> Request {
     let call = any_call(random);
     let mut request = Request::new(call, &[]);
     request.values = any_values(random, call);
-    if call >= Call::ReadRun {
+    if call.is_on_record() {
         ask_record(random, &mut request);
         return request;
     }
-    let Asked { bytes, net } = any_table(random);
+    let Asked { bytes, net } = match call {
+        Call::ElementCount | Call::Element => any_exported_table(random, call),
+        _ => any_table(random),
+    };
     request.table = bytes;
     match call {
-        Call::Judge | Call::Counts | Call::UnfoldedCounts => {}
+        Call::Judge | Call::Counts | Call::UnfoldedCounts | Call::ElementCount => {}
+        Call::Element => {
+            let needed = ask_element(random, &mut request, &net);
+            lend(random, &mut request, needed, 1);
+        }
         Call::Start => lend(random, &mut request, net.persistent.len(), 1),
         Call::UnfoldedStart => {
             let (conditions, _) = unfolded_counts(&net);

@@ -188,6 +188,15 @@ fn make_run(request: &Request, making: &mut Making) -> Answer<()> {
     }
 }
 
+/// Makes a call on the export.
+fn make_export(request: &Request, making: &mut Making) -> Answer<()> {
+    let table = making.table;
+    match request.call {
+        Call::ElementCount => making.values(&[calls::element_count(table)?]),
+        _ => making.bytes(|out| calls::element(table, request.numbers[0], out)),
+    }
+}
+
 /// The reply that a request must come to.
 pub fn expected(request: &Request) -> Reply {
     let mut making = Making {
@@ -204,6 +213,7 @@ pub fn expected(request: &Request) -> Reply {
     let made = match request.call {
         call if call <= Call::Exchange => make_table(request, &mut making),
         call if call <= Call::UnfoldedFire => make_unfolding(request, &mut making),
+        call if call >= Call::ElementCount => make_export(request, &mut making),
         _ => make_run(request, &mut making),
     };
     if let Err(refusal) = made {

@@ -1,5 +1,5 @@
 //! Compares the proved library, asked over the driver, with the second implementation:
-//! `compare [--cases N] [--seed S] [--call NAME]`, or `compare --case SEED` for one case alone.
+//! `compare [--cases N] [--seed S] [--call NAME]`, or `compare --case SEED` for one case alone, `compare --export SEED` for one export.
 
 use std::process::ExitCode;
 use std::sync::mpsc::{sync_channel, Receiver};
@@ -7,6 +7,7 @@ use std::thread;
 use std::time::Instant;
 
 use compare::case::{call_of, case};
+use compare::elements::whole_export;
 use compare::expected::expected;
 use compare::tally::{Sizes, Tally};
 use second::generator::Random;
@@ -17,6 +18,9 @@ const BATCH: u64 = 256;
 
 /// From so many cases on, each call must have come to every outcome that the header lists.
 const LONG: u64 = 100_000;
+
+/// For so many cases each, one export is compared whole, element by element.
+const CASES_AN_EXPORT: u64 = 2_000;
 
 /// After so many cases each, a line tells how far it is.
 const TOLD: u64 = 500_000;
@@ -33,6 +37,7 @@ struct Wanted {
     seed: u64,
     call: Option<Call>,
     one: Option<u64>,
+    export: Option<u64>,
 }
 
 /// Reads the words of the command.
@@ -42,6 +47,7 @@ fn wanted() -> Option<Wanted> {
         seed: 2026,
         call: None,
         one: None,
+        export: None,
     };
     let mut words = std::env::args().skip(1);
     while let Some(word) = words.next() {
@@ -51,6 +57,7 @@ fn wanted() -> Option<Wanted> {
             "--seed" => wanted.seed = value.parse().ok()?,
             "--call" => wanted.call = Some(Call::by_name(&value)?),
             "--case" => wanted.one = Some(value.parse().ok()?),
+            "--export" => wanted.export = Some(value.parse().ok()?),
             _ => return None,
         }
     }
@@ -59,20 +66,33 @@ fn wanted() -> Option<Wanted> {
 
 /// A case with what it must come to.
 struct Case {
-    seed: u64,
+    /// How the command names it.
+    name: String,
     request: Request,
     expected: Reply,
 }
 
-/// Makes the case of a seed.
-fn made(seed: u64) -> Case {
-    let request = case(seed);
+/// A request as a case.
+fn made(name: String, request: Request) -> Case {
     let expected = expected(&request);
     Case {
-        seed,
+        name,
         request,
         expected,
     }
+}
+
+/// Makes the case of a seed.
+fn made_case(seed: u64) -> Case {
+    made(format!("case {seed}"), case(seed))
+}
+
+/// Makes a case of every element of a seed's export.
+fn made_export(seed: u64) -> Vec<Case> {
+    let requests = whole_export(seed).into_iter();
+    requests
+        .map(|request| made(format!("export {seed}"), request))
+        .collect()
 }
 
 /// The seed of a case by its place in the comparison; where one call is wanted, of a case of that call.
@@ -120,8 +140,8 @@ fn case_text(case: &Case, got: &Reply) -> String {
         values,
     } = &case.request;
     format!(
-        "case {}: {}\n  table {}\n  given {}\n  lent {}\n  numbers {numbers:?} values {values:?}\n  second  {}\n  library {}",
-        case.seed,
+        "{}: {}\n  table {}\n  given {}\n  lent {}\n  numbers {numbers:?} values {values:?}\n  second  {}\n  library {}",
+        case.name,
         call.name(),
         shown(table),
         shown(given),
@@ -139,7 +159,9 @@ fn maker(wanted: &Wanted, first: u64, step: u64) -> Receiver<Vec<Case>> {
         let mut place = first * BATCH;
         while place < cases {
             let places = place..cases.min(place + BATCH);
-            let batch = places.map(|at| made(case_seed(seed, call, at))).collect();
+            let batch = places
+                .map(|at| made_case(case_seed(seed, call, at)))
+                .collect();
             if to.send(batch).is_err() {
                 return;
             }
@@ -155,6 +177,8 @@ struct Compared {
     tally: Tally,
     sizes: Sizes,
     cases: u64,
+    exports: u64,
+    elements: u64,
     differences: u64,
 }
 
@@ -165,18 +189,33 @@ impl Compared {
         for (case, got) in batch.iter().zip(driver.ask_all(&requests)?) {
             self.tally.count(&case.request, &case.expected);
             self.sizes.count(&case.request, &case.expected);
-            self.cases += 1;
             if got != case.expected {
                 self.differences += 1;
                 if self.differences <= SHOWN {
                     println!("difference in {}", case_text(case, &got));
                 }
             }
-            if self.cases.is_multiple_of(TOLD) {
-                eprintln!("{} cases, {} differences", self.cases, self.differences);
-            }
         }
         Ok(())
+    }
+
+    /// Compares the cases of a batch, and now and then tells how far it is.
+    fn take_cases(&mut self, batch: &[Case], driver: &mut Driver) -> std::io::Result<()> {
+        let told = self.cases / TOLD;
+        self.take(batch, driver)?;
+        self.cases += batch.len() as u64;
+        if self.cases / TOLD > told {
+            eprintln!("{} cases, {} differences", self.cases, self.differences);
+        }
+        Ok(())
+    }
+
+    /// Compares every element of a seed's export.
+    fn take_export(&mut self, seed: u64, driver: &mut Driver) -> std::io::Result<()> {
+        let batch = made_export(seed);
+        self.exports += 1;
+        self.elements += batch[0].expected.values[0];
+        self.take(&batch, driver)
     }
 
     /// Prints what was seen; true if nothing differed and nothing was missed.
@@ -189,6 +228,10 @@ impl Compared {
             .for_each(|what| println!("{what}"));
         let (cases, differences) = (self.cases, self.differences);
         let seed = wanted.seed;
+        println!(
+            "exports: {}, whole, of {} elements",
+            self.exports, self.elements
+        );
         println!("seed {seed}: {cases} cases in {seconds:.1} s, {differences} differences");
         let seen = unlisted.is_empty() && (wanted.cases < LONG || missed.is_empty());
         cases == wanted.cases && differences == 0 && seen
@@ -205,14 +248,19 @@ fn compare_all(wanted: &Wanted, driver: &mut Driver) -> std::io::Result<bool> {
         let Ok(batch) = made.recv() else {
             break;
         };
-        compared.take(&batch, driver)?;
+        compared.take_cases(&batch, driver)?;
+    }
+    if wanted.call.is_none_or(|call| call == Call::Element) {
+        for place in 0..wanted.cases / CASES_AN_EXPORT {
+            compared.take_export(case_seed(wanted.seed, None, place), driver)?;
+        }
     }
     Ok(compared.told(wanted, begun.elapsed().as_secs_f64()))
 }
 
 /// Compares one case and shows it.
 fn compare_one(seed: u64, driver: &mut Driver) -> std::io::Result<bool> {
-    let case = made(seed);
+    let case = made_case(seed);
     let got = driver.ask(&case.request)?;
     println!("{}", case_text(&case, &got));
     let same = got == case.expected;
@@ -220,14 +268,28 @@ fn compare_one(seed: u64, driver: &mut Driver) -> std::io::Result<bool> {
     Ok(same)
 }
 
+/// Compares every element of one export.
+fn compare_export(seed: u64, driver: &mut Driver) -> std::io::Result<bool> {
+    let mut compared = Compared::default();
+    compared.take_export(seed, driver)?;
+    println!(
+        "{} elements, {} differences",
+        compared.elements, compared.differences
+    );
+    Ok(compared.differences == 0)
+}
+
 fn main() -> ExitCode {
     let Some(wanted) = wanted() else {
-        eprintln!("usage: compare [--cases N] [--seed S] [--call NAME], or compare --case SEED");
+        eprintln!(
+            "usage: compare [--cases N] [--seed S] [--call NAME], compare --case SEED, or compare --export SEED"
+        );
         return ExitCode::from(2);
     };
-    let compared = Driver::open().and_then(|mut driver| match wanted.one {
-        Some(seed) => compare_one(seed, &mut driver),
-        None => compare_all(&wanted, &mut driver),
+    let compared = Driver::open().and_then(|mut driver| match (wanted.one, wanted.export) {
+        (Some(seed), _) => compare_one(seed, &mut driver),
+        (None, Some(seed)) => compare_export(seed, &mut driver),
+        (None, None) => compare_all(&wanted, &mut driver),
     });
     match compared {
         Ok(true) => ExitCode::SUCCESS,

@@ -20,8 +20,10 @@ fn own_refusals(call: Call) -> &'static [u64] {
         Call::CanFire | Call::Fire => &[10, 11, 12, 18],
         Call::Replay => &[3, 10, 11, 12, 16],
         Call::Exchange => &[3, 10, 11, 12, 17],
-        Call::UnfoldedCounts => &[13, 14],
-        Call::EventOrigin | Call::UnfoldedPre | Call::UnfoldedPost => &[10, 13, 14, 16],
+        Call::UnfoldedCounts | Call::ElementCount => &[13, 14],
+        Call::EventOrigin | Call::UnfoldedPre | Call::UnfoldedPost | Call::Element => {
+            &[10, 13, 14, 16]
+        }
         Call::EventNumber | Call::ConditionOrigin | Call::ConditionNumber => &[10, 13, 14],
         Call::UnfoldedStart => &[13, 14, 16],
         Call::UnfoldedFire => &[10, 11, 12, 13, 14, 18],
@@ -32,22 +34,18 @@ fn own_refusals(call: Call) -> &'static [u64] {
     }
 }
 
-/// A call is one on a table.
-fn is_on_table(call: Call) -> bool {
-    call < Call::ReadRun
-}
-
 /// Everything that a call can come to.
 fn outcomes(call: Call) -> Vec<Outcome> {
     let own = own_refusals(call).iter().map(|n| (*n, *n == 3));
     let table = TABLE.iter().map(|n| (*n, false));
-    let table = table.filter(|_| is_on_table(call));
+    let table = table.filter(|_| !call.is_on_record());
     [(0, false)].into_iter().chain(table).chain(own).collect()
 }
 
 /// What one case came to.
 fn outcome(request: &Request, reply: &Reply) -> Outcome {
-    let of_run = reply.number == 3 && (!is_on_table(request.call) || judge(&request.table).is_ok());
+    let of_run =
+        reply.number == 3 && (request.call.is_on_record() || judge(&request.table).is_ok());
     (reply.number, of_run)
 }
 
@@ -123,6 +121,7 @@ pub struct Sizes {
     long_runs: u64,
     large_tables: u64,
     large_unfoldings: u64,
+    far_elements: u64,
 }
 
 impl Sizes {
@@ -146,19 +145,23 @@ impl Sizes {
         self.long_runs += u64::from(worked && long);
         self.large_tables += u64::from(worked && request.table.len() > 60_000);
         self.large_unfoldings += u64::from(worked && unfolded && large);
+        let far = request.call == Call::Element && request.numbers[0] > 60_000;
+        self.far_elements += u64::from(worked && far);
     }
 
     /// The sizes as lines.
     pub fn text(&self) -> String {
         format!(
             "largest: table {} bytes, given {} bytes, lent {} bytes\n\
-             worked: {} on runs of over 4,000 steps, {} on tables of over 60,000 bytes, {} counted over 60,000 unfolded\n",
+             worked: {} on runs of over 4,000 steps, {} on tables of over 60,000 bytes, {} counted over 60,000 unfolded, \
+             {} wrote elements past number 60,000\n",
             self.table,
             self.given,
             self.lent,
             self.long_runs,
             self.large_tables,
-            self.large_unfoldings
+            self.large_unfoldings,
+            self.far_elements
         )
     }
 }

@@ -3,6 +3,7 @@
 use std::collections::BTreeSet;
 
 use compare::case::case;
+use compare::elements::whole_export;
 use compare::expected::expected;
 use second::generator::Random;
 use wire::{Call, Request};
@@ -77,4 +78,46 @@ fn a_refusal_is_expected_to_leave_everything() {
     let reply = expected(&request);
     assert_eq!((reply.number, reply.values), (0, [1, 1, 0, 0]));
     assert_eq!(reply.lent, [0, 0, 0, 0, 5, 5, 5, 5]);
+}
+
+#[test]
+fn elements_come_of_every_group_and_past_the_last() {
+    let groups = [
+        "<pnml xmlns",
+        "<place id=\"p",
+        "<place id=\"q",
+        "<transition id=\"t",
+        "<arc id=\"a",
+        "</page>",
+    ];
+    let (mut seen, mut past, mut short) = ([0; 6], 0, 0);
+    for request in seeds()
+        .map(case)
+        .filter(|request| request.call == Call::Element)
+    {
+        let reply = expected(&request);
+        let starts = |group: &&str| reply.lent.starts_with(group.as_bytes());
+        match (reply.number, groups.iter().position(|group| starts(&group))) {
+            (0, Some(group)) => seen[group] += 1,
+            (10, None) => past += 1,
+            (16, None) => short += 1,
+            (1..=9 | 13 | 14, None) => {}
+            other => panic!("{other:?}"),
+        }
+    }
+    assert!(seen.iter().all(|count| *count > 4), "{seen:?}");
+    assert!(past > 10 && short > 10, "{past} {short}");
+}
+
+#[test]
+fn a_whole_export_asks_for_every_element_twice() {
+    for seed in seeds().take(20) {
+        let requests = whole_export(seed);
+        let count = expected(&requests[0]).values[0];
+        assert_eq!(requests.len() as u64, 1 + 2 * (count + 1));
+        let replies: Vec<u64> = requests[1..].iter().map(|r| expected(r).number).collect();
+        let (past, inside) = (&replies[replies.len() - 2..], &replies[..replies.len() - 2]);
+        assert_eq!(past, [10, 10]);
+        assert!(inside.chunks(2).all(|pair| pair == [0, 16]));
+    }
 }

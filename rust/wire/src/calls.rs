@@ -327,4 +327,16 @@ impl Driver {
     pub fn write_lifted(&mut self, lifted: &[u16], output: &mut [u8]) -> Answer<usize> {
         self.recorded(Call::WriteLifted, lifted, output)
     }
+
+    /// The number of elements of the export.
+    pub fn element_count(&mut self, table: &[u8]) -> Answer<u64> {
+        Ok(self.made(&Request::new(Call::ElementCount, table))?.values[0])
+    }
+
+    /// Writes the text of an element of the export and gives the number of its bytes.
+    pub fn element(&mut self, table: &[u8], element: u64, output: &mut [u8]) -> Answer<usize> {
+        let mut request = Request::new(Call::Element, table);
+        request.numbers[0] = element;
+        Ok(self.filled(request, output)?.values[0] as usize)
+    }
 }

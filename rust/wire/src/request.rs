@@ -31,11 +31,13 @@ pub enum Call {
     ReadLifted,
     WriteRun,
     WriteLifted,
+    ElementCount,
+    Element,
 }
 
 impl Call {
     /// Every call with its name in the header, without the prefix.
-    pub const ALL: [(Call, &'static str); 26] = [
+    pub const ALL: [(Call, &'static str); 28] = [
         (Call::Judge, "judge"),
         (Call::Counts, "counts"),
         (Call::Pre, "pre"),
@@ -62,6 +64,8 @@ impl Call {
         (Call::ReadLifted, "read_lifted"),
         (Call::WriteRun, "write_run"),
         (Call::WriteLifted, "write_lifted"),
+        (Call::ElementCount, "element_count"),
+        (Call::Element, "element"),
     ];
 
     /// The call of a name.
@@ -73,6 +77,11 @@ impl Call {
     /// The call's name in the header, without the prefix.
     pub fn name(self) -> &'static str {
         Call::ALL[self as usize].1
+    }
+
+    /// The call takes a record or the steps of one, and no table.
+    pub fn is_on_record(self) -> bool {
+        (Call::ReadRun..=Call::WriteLifted).contains(&self)
     }
 }
 

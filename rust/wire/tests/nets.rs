@@ -274,3 +274,80 @@ fn records_are_read_and_written() {
     );
     assert_eq!(driver.write_lifted(&run, &mut [0; 11]), refused(16, 12));
 }
+
+/// An element of the export as text.
+fn element(driver: &mut Driver, table: &[u8], number: u64) -> Answer<String> {
+    let bytes = whole(0, |out| driver.element(table, number, out))?;
+    Ok(String::from_utf8_lossy(&bytes).into_owned())
+}
+
+/// The first and the last element of every export.
+const OPENS: &str = "<pnml xmlns=\"http://www.pnml.org/version-2009/grammar/pnml\"><net id=\"n\" \
+                     type=\"http://www.pnml.org/version-2009/grammar/ptnet\"><page id=\"g\">";
+const CLOSES: &str = "</page></net></pnml>";
+
+/// The export of net A: places, those with a token marked by a star, then transitions, then arcs.
+const NET_A: [&str; 36] = [
+    "p0*", "p1", "p2", "p3", "p4", "q0", "q1*", "q2*", "q3*", "q4*", "t0", "t1", "t2", "t3",
+    "p0 t0", "q1 t0", "q3 t0", "t0 p1", "t0 p3", "t0 q0", "p1 t1", "p2 t1", "q4 t1", "t1 p2",
+    "t1 p4", "t1 q1", "p1 t2", "p3 t2", "q4 t2", "t2 p3", "t2 p4", "t2 q1", "p4 t3", "q1 t3",
+    "t3 p1", "t3 q4",
+];
+
+/// The text of a part of net A's export, by its place in the list.
+fn part_text(place: usize, part: &str) -> String {
+    if let Some((source, target)) = part.split_once(' ') {
+        let arc = place - 14;
+        return format!("<arc id=\"a{arc}\" source=\"{source}\" target=\"{target}\"/>");
+    }
+    match (part.strip_suffix('*'), part.starts_with('t')) {
+        (Some(id), _) => {
+            format!("<place id=\"{id}\"><initialMarking><text>1</text></initialMarking></place>")
+        }
+        (None, true) => format!("<transition id=\"{part}\"/>"),
+        (None, false) => format!("<place id=\"{part}\"/>"),
+    }
+}
+
+#[test]
+fn net_a_is_exported() {
+    let (mut driver, table) = (driver(), net_a(&[0]));
+    assert_eq!(driver.element_count(&table), Ok(38));
+    assert_eq!(element(&mut driver, &table, 0), Ok(OPENS.to_string()));
+    for (place, part) in NET_A.iter().enumerate() {
+        let found = element(&mut driver, &table, 1 + place as u64);
+        assert_eq!(found, Ok(part_text(place, part)));
+    }
+    assert_eq!(element(&mut driver, &table, 37), Ok(CLOSES.to_string()));
+    for past in [38, 1 << 32, u64::MAX] {
+        assert_eq!(driver.element(&table, past, &mut []), refused(10, 0));
+    }
+    let mut output = [9; 21];
+    assert_eq!(
+        driver.element(&table, 37, &mut output[..19]),
+        refused(16, 20)
+    );
+    assert_eq!(output, [9; 21]);
+    assert_eq!(driver.element(&table, 37, &mut output), Ok(20));
+    assert_eq!(output[20], 9);
+}
+
+#[test]
+fn the_export_keeps_its_limits() {
+    let (mut driver, table) = (driver(), limit(&[], &[]));
+    let (places, events, arcs) = (2 * 228, 65_535, 1_835_172);
+    let count = 2 + places + events + arcs;
+    assert_eq!(driver.element_count(&table), Ok(count));
+    let transition = "<transition id=\"t65534\"/>".to_string();
+    assert_eq!(
+        element(&mut driver, &table, places + events),
+        Ok(transition)
+    );
+    let last = "<arc id=\"a1835171\" source=\"t65534\" target=\"p95\"/>".to_string();
+    assert_eq!(element(&mut driver, &table, count - 2), Ok(last));
+    assert_eq!(element(&mut driver, &table, count), refused(10, 0));
+    let one_more = limit(&[0], &[(vec![], vec![15])]);
+    assert_eq!(driver.element_count(&one_more), refused(14, 0));
+    let idle = limit(&[1], &[(vec![], vec![15])]);
+    assert_eq!(driver.element(&idle, 0, &mut []), refused(13, 27));
+}
