@@ -64,6 +64,14 @@ extern "C" {
         marking_length: usize,
         unfolded: u16,
     ) -> Answer;
+    fn dovetrellis_element(
+        table: *const u8,
+        table_length: usize,
+        element: u64,
+        out: *mut u8,
+        out_length: usize,
+        count: *mut u64,
+    ) -> Answer;
 }
 
 // Safety, for every call below: pointers and lengths are those of slices, which do not overlap, and the header asks no more.
@@ -154,6 +162,20 @@ pub fn unfolded_fire(table: &[u8], marking: &mut [u8], unfolded: u16) -> Answer 
             marking.as_mut_ptr(),
             marking.len(),
             unfolded,
+        )
+    }
+}
+
+pub fn element(table: &[u8], element: u64, out: &mut [u8]) -> Answer {
+    let mut count = 0;
+    unsafe {
+        dovetrellis_element(
+            table.as_ptr(),
+            table.len(),
+            element,
+            out.as_mut_ptr(),
+            out.len(),
+            &mut count,
         )
     }
 }

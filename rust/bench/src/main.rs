@@ -2,6 +2,7 @@
 //! or fails by time; each call's answers are compared once before it is measured.
 
 mod clock;
+mod export;
 mod inputs;
 #[allow(unsafe_code)]
 mod library;
@@ -132,8 +133,9 @@ fn last_lifted(input: &Input) -> u16 {
     lifted(input).last().copied().unwrap_or(0)
 }
 
-/// Room for the longest list.
+/// Room for the longest list, and for the longest text of an element.
 const LIST: usize = 2_048;
+const ELEMENT: usize = 256;
 
 fn unfolded_pre(input: &Input) -> Measured {
     let (table, number) = (&input.table, last_lifted(input));
@@ -172,17 +174,29 @@ fn unfolded_fire(input: &Input) -> Measured {
     )
 }
 
+/// The last element, which is found by walking all unfolded events.
+fn last_element(input: &Input) -> Measured {
+    let table = &input.table;
+    let last = calls::element_count(table).map_or(0, |count| count - 1);
+    measured(
+        ELEMENT,
+        |out: &mut [u8]| library::element(table, last, out),
+        |out| calls::element(table, last, out),
+    )
+}
+
 /// A call that is measured.
 type Call = (&'static str, fn(&Input) -> Measured);
 
 const PLAYED: [Call; 3] = [("judge", judge), ("fire", fire), ("replay", replay)];
 
-const UNFOLDED: [Call; 5] = [
+const UNFOLDED: [Call; 6] = [
     ("lift", lift),
     ("project", project),
     ("unfolded_pre", unfolded_pre),
     ("unfolded_post", unfolded_post),
     ("unfolded_fire", unfolded_fire),
+    ("element, the last", last_element),
 ];
 
 /// Prints the ratios of calls on inputs.
@@ -343,9 +357,37 @@ fn print_growth() {
     growth(&UNFOLDED, &sizes);
 }
 
-fn main() {
+/// Whole exports, by the program if there is one; it runs on this machine as the environment says.
+fn print_exports() -> std::io::Result<()> {
+    head(
+        "Whole exports, by the program and by the second implementation (elapsed time)",
+        "input | elements | bytes | program | second | ratio",
+    );
+    for input in [net_a(), typical(500), wide(), most_events()] {
+        let found = export::measured(&input.table)?;
+        let (program, ratio) = match found.program {
+            None => ("-".to_string(), "-".to_string()),
+            Some(time) => (time_text(time), format!("{:.2}", time / found.second)),
+        };
+        println!(
+            "| {} | {} | {} | {program} | {} | {ratio} |",
+            input.name,
+            found.elements,
+            found.bytes,
+            time_text(found.second)
+        );
+    }
+    match export::program() {
+        None => println!("\nDOVETRELLIS_EXPORT names no program."),
+        Some(words) => println!("\nprogram: {}", words.join(" ")),
+    }
+    Ok(())
+}
+
+fn main() -> std::io::Result<()> {
     print_machine();
     print_ratios();
     print_judging();
     print_growth();
+    print_exports()
 }
