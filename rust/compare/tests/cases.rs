@@ -96,8 +96,8 @@ fn elements_come_of_every_group_and_past_the_last() {
         .filter(|request| request.call == Call::Element)
     {
         let reply = expected(&request);
-        let starts = |group: &&str| reply.lent.starts_with(group.as_bytes());
-        match (reply.number, groups.iter().position(|group| starts(&group))) {
+        let starts = |group: &str| reply.lent.starts_with(group.as_bytes());
+        match (reply.number, groups.iter().position(|group| starts(group))) {
             (0, Some(group)) => seen[group] += 1,
             (10, None) => past += 1,
             (16, None) => short += 1,

@@ -127,7 +127,7 @@ impl<'a> Doubled<'a> {
 
 // ---- the elements
 
-/// Text in the short form where nothing is inside, else with what is inside.
+/// A place: in the short form where it holds no token.
 fn place_text(id: &str, holds: bool) -> String {
     if holds {
         format!(r#"<place id="{id}"><initialMarking><text>1</text></initialMarking></place>"#)
@@ -136,10 +136,12 @@ fn place_text(id: &str, holds: bool) -> String {
     }
 }
 
+/// The transition of an event.
 fn transition_text(event: usize) -> String {
     format!(r#"<transition id="t{event}"/>"#)
 }
 
+/// An arc by its number, between two ids.
 fn arc_text(arc: u64, source: &str, target: &str) -> String {
     format!(r#"<arc id="a{arc}" source="{source}" target="{target}"/>"#)
 }
@@ -163,6 +165,7 @@ impl DoubledEvent {
 }
 
 impl Doubled<'_> {
+    /// The element of a place.
     fn place_element(&self, place: Place) -> String {
         place_text(&place.id(), self.holds(place))
     }

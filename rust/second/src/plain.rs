@@ -82,35 +82,31 @@ fn search<M: Clone + Ord>(
     most: usize,
 ) -> Reached<M> {
     let mut numbers = BTreeMap::from([(start.clone(), 0)]);
-    let mut markings = vec![start];
-    let mut steps = Vec::new();
+    let mut reached = Reached {
+        markings: vec![start],
+        steps: Vec::new(),
+        whole: true,
+    };
     let mut before = 0;
-    while before < markings.len() {
+    while before < reached.markings.len() {
         for transition in 0..transitions {
-            let Some(after) = fired(&markings[before], transition) else {
+            let Some(after) = fired(&reached.markings[before], transition) else {
                 continue;
             };
-            let next = markings.len();
+            let next = reached.markings.len();
             let number = *numbers.entry(after.clone()).or_insert(next);
             if number == next {
                 if next >= most {
-                    return Reached {
-                        markings,
-                        steps,
-                        whole: false,
-                    };
+                    reached.whole = false;
+                    return reached;
                 }
-                markings.push(after);
+                reached.markings.push(after);
             }
-            steps.push((before, transition, number));
+            reached.steps.push((before, transition, number));
         }
         before += 1;
     }
-    Reached {
-        markings,
-        steps,
-        whole: true,
-    }
+    reached
 }
 
 // ---- lines of text

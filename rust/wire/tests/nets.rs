@@ -277,7 +277,7 @@ fn records_are_read_and_written() {
 
 /// An element of the export as text.
 fn element(driver: &mut Driver, table: &[u8], number: u64) -> Answer<String> {
-    let bytes = whole(0, |out| driver.element(table, number, out))?;
+    let bytes = whole(60, |out| driver.element(table, number, out))?;
     Ok(String::from_utf8_lossy(&bytes).into_owned())
 }
 
