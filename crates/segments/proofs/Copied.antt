@@ -30,7 +30,7 @@ use Rattle.segments.proofs.Spans.{has, Between, alone-between, alone-ha
 
 module _ (n : Net) (b : ℕ) (p : n .persistent b ≡ true) where
   -- the copy at a place: which marker's and which user's
-  record CopyAt (r : ℕ) (y : UnfoldedCondition) : Type 0 where
+  pub record CopyAt (r : ℕ) (y : UnfoldedCondition) : Type 0 where
     pub place : ℕ
     pub user : ℕ
     pub marker : Marker
@@ -51,17 +51,24 @@ module _ (n : Net) (b : ℕ) (p : n .persistent b ≡ true) where
   unfolding width
   copies-length = width-copies n b ∙ rw p
 
+  -- a segment that has the copies which pass a test is their places
+  pub is-placed : (t : UnfoldedCondition → Bool) (g : Segment) → Between (sum (width n) b) (sum (width n) b + length (markers n b) * length (users n b)) g
+      → ((r : ℕ) (y : UnfoldedCondition) → CopyAt r y → t y ≡ has g (sum (width n) b + r)) → within g ≡ places-from (sum (width n) b) t (copies n b)
+  is-placed t g l f =
+      sym (places-two t (copies n b) (sum (width n) b) (g .first) (g .size) (g .next) (g .more) (l .from) (l .then)
+      (omega (arith, l .upto, copies-length)) (λ r y i. f r y (copy-at r y i)))
+
   module _ (post : Bool) (e : ℕ) (h : e < n .events) (colour : List Marker) where
-    abbrev x : UnfoldedEvent
+    abbrev pub x : UnfoldedEvent
     x = record { event = e; colour = colour }
 
-    abbrev base : ℕ
+    abbrev pub base : ℕ
     base = sum (width n) b
 
-    abbrev first : ℕ
+    abbrev pub first : ℕ
     first = base + (1 + length (having n true b e)) * length (users n b)
 
-    abbrev size : ℕ
+    abbrev pub size : ℕ
     size = sizeIf post (mem b (listOf n post e)) (length (users n b))
 
     touch-is : (t : Bool) (m : Marker) (u : ℕ) → touching n t x (copy b m u) ≡ (takes n x (copy b m u) || (t && (sameMarker m (byEvent e) && mem b (n .postconditions e))))
@@ -70,7 +77,7 @@ module _ (n : Net) (b : ℕ) (p : n .persistent b ≡ true) where
     touch-is false m u = sym (or-none (takes n x (copy b m u)))
 
     -- the copies that the event marks are one range
-    put-range : (r : ℕ) (y : UnfoldedCondition) (c : CopyAt r y) (t : Bool)
+    pub put-range : (r : ℕ) (y : UnfoldedCondition) (c : CopyAt r y) (t : Bool)
         → (t && (sameMarker (c .marker) (byEvent e) && mem b (n .postconditions e))) ≡ inside first (sizeIf t (mem b (listOf n t e)) (length (users n b))) (base + r)
     put-range r y c false = sym (nothing-in first (base + r))
     put-range r y c true = go (mem b (n .postconditions e)) refl
@@ -120,11 +127,9 @@ module _ (n : Net) (b : ℕ) (p : n .persistent b ≡ true) where
     is-added : (g : Segment) → Between base (base + length (markers n b) * length (users n b)) g
         → ((r : ℕ) (y : UnfoldedCondition) → CopyAt r y → touching n post x y ≡ has g (base + r)) → within g ≡ added n post x b
     unfolding added
-    is-added g l f =
-        sym (places-two (touching n post x) (copies n b) base (g .first) (g .size) (g .next) (g .more) (l .from) (l .then)
-        (omega (arith, l .upto, copies-length)) (λ r y i. f r y (copy-at r y i)))
+    is-added g l f = is-placed (touching n post x) g l f
 
-    not-taken : mem b (n .preconditions e) ≡ false → (m : Marker) (u : ℕ) → takes n x (copy b m u) ≡ false
+    pub not-taken : mem b (n .preconditions e) ≡ false → (m : Marker) (u : ℕ) → takes n x (copy b m u) ≡ false
     unfolding takes reads
     not-taken f m u =
         is-false (eqb u e && picked (reads n e) colour b m) (λ t.
@@ -142,13 +147,13 @@ module _ (n : Net) (b : ℕ) (p : n .persistent b ≡ true) where
     -- what it reads, with the marker at place i
     module _ (f : mem b (n .preconditions e) ≡ true) (i : ℕ) (l : i < length (markers n b))
         (k : (m : Marker) → picked (reads n e) colour b m ≡ sameMarker m (getD (markers n b) i atStart)) where
-      abbrev taken : ℕ
+      abbrev pub taken : ℕ
       taken = base + i * length (users n b) + length (having n false b e)
 
       pub own : length (having n false b e) < length (users n b)
       own = at-lt (users n b) (length (having n false b e)) (user-here n b e h f)
 
-      taken-one : (r : ℕ) (y : UnfoldedCondition) (c : CopyAt r y) → takes n x (copy b (c .marker) (c .event)) ≡ eqb (base + r) taken
+      pub taken-one : (r : ℕ) (y : UnfoldedCondition) (c : CopyAt r y) → takes n x (copy b (c .marker) (c .event)) ≡ eqb (base + r) taken
       unfolding takes
       taken-one r y c =
           iff (eqb (c .event) e && picked (reads n e) colour b (c .marker)) (eqb (base + r) taken)

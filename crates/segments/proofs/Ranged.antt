@@ -18,7 +18,7 @@ use Rattle.segments.specs.Ranges.{rangedFrom, ranged, within}
 
 -- ---- one more
 
-spread-same : (f g : ℕ → List ℕ) (o c : ℕ) → ((i : ℕ) → o ≤ i → i < o + c → f i ≡ g i) → spread f (count o c) ≡ spread g (count o c)
+pub spread-same : (f g : ℕ → List ℕ) (o c : ℕ) → ((i : ℕ) → o ≤ i → i < o + c → f i ≡ g i) → spread f (count o c) ≡ spread g (count o c)
 spread-same f g o zero h = refl
 spread-same f g o (suc c) h =
     ap₂ {C = List ℕ} (λ x y. x ++ y) (h o (omega arith) (omega arith)) (spread-same f g (suc o) c (λ i l m. h i (omega arith) (omega arith)))

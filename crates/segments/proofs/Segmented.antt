@@ -21,17 +21,17 @@ module _ {s us bs mk uz ch pre members : List ℕ} {post : Bool} {e rest : ℕ} 
   low : b < 256
   low = omega (arith, k .limits .few-conditions)
 
-  base-is : getD bs b 0 ≡ sum (width (netOf s)) b
+  pub base-is : getD bs b 0 ≡ sum (width (netOf s)) b
   base-is = k .sums .at b (omega arith)
 
-  users-are : getD us b 0 ≡ length (users (netOf s) b)
+  pub users-are : getD us b 0 ≡ length (users (netOf s) b)
   unfolding users
   users-are = k .used .at b low ∙ omega arith
 
-  mark-is : getD mk b 0 ≡ 1 + length (having (netOf s) true b e)
+  pub mark-is : getD mk b 0 ≡ 1 + length (having (netOf s) true b e)
   mark-is = k .own-marks .at b low
 
-  use-is : getD uz b 0 ≡ length (having (netOf s) false b e)
+  pub use-is : getD uz b 0 ≡ length (having (netOf s) false b e)
   use-is = k .own-uses .at b low ∙ omega arith
 
   within-limit : sum (width (netOf s)) b + width (netOf s) b ≤ 65535

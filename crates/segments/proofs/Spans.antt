@@ -26,7 +26,7 @@ alone-between low high first size h l = record { from = h; then = omega arith; u
 pub alone-has : (first size k : ℕ) → has (aloneOf first size) k ≡ inside first size k
 alone-has first size k = rw (nothing-in (first + size) k) (or-none (inside first size k))
 
-one-inside : (taken k : ℕ) → inside taken 1 k ≡ eqb k taken
+pub one-inside : (taken k : ℕ) → inside taken 1 k ≡ eqb k taken
 one-inside taken k =
     iff (inside taken 1 k) (eqb k taken)
     (λ t. let x = inside-out taken 1 k t in T-of (eqb k taken) (eq-eqb k taken (omega arith)))

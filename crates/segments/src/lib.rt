@@ -3,7 +3,7 @@
 ghost use mathlib.Core.Path.{_≡_};
 ghost use mathlib.Core.List.{_++_};
 ghost use Prim.Native.Nat.{_+_, _*_, _≤_, _<_};
-ghost use lib.ListN.{length};
+ghost use lib.ListN.{length, getD};
 ghost use Rattle.lists.specs.Lists.{count, sum, spread};
 ghost use Rattle.words.specs.Words.{words};
 ghost use Rattle.records.specs.Records.{conditions};
@@ -52,7 +52,7 @@ fn choices<'a>(table: &'a [u8], markers: &'a [u32], b: usize) -> u32
 }
 
 // The places of the chosen markers from a colour's number: a walk down the preconditions, the first of which changes slowest.
-fn choose<'a>(
+pub fn choose<'a>(
     table: &'a [u8],
     markers: &'a [u32],
     pre: &'a [u8],
@@ -77,7 +77,7 @@ fn choose<'a>(
 }
 
 // One range alone.
-fn alone(first: u32, size: u32) -> Segment
+pub fn alone(first: u32, size: u32) -> Segment
     requires { ⌜ first + size ≤ 100000 ⌝ }
     ensures { λ r. ⌜ r ≡ aloneOf first size ⌝ }
 {
@@ -90,7 +90,7 @@ fn alone(first: u32, size: u32) -> Segment
 }
 
 // One number and a range, in order, the number once where the range has it.
-fn joined(taken: u32, first: u32, size: u32) -> Segment
+pub fn joined(taken: u32, first: u32, size: u32) -> Segment
     requires { ⌜ first + size ≤ 100000 ⌝ }
     ensures { λ r. ⌜ r ≡ joinedOf taken first size ⌝ }
 {
@@ -114,7 +114,7 @@ fn joined(taken: u32, first: u32, size: u32) -> Segment
 }
 
 // The size of a range where b is a member, else none.
-fn size_if(counts: bool, members: &[u32], b: usize, size: u32) -> u32
+pub fn size_if(counts: bool, members: &[u32], b: usize, size: u32) -> u32
     ensures { λ r. ⌜ r ≡ sizeIf counts (oneAt (now (members .entry)) b) size ⌝ }
 {
     if counts {
@@ -159,7 +159,7 @@ fn segment_at<'a>(
 }
 
 // The segment of condition b, kept as the two ranges that follow those of the conditions before it.
-fn keep_segment(g: Segment, b: usize, starts: &mut [u32], sizes: &mut [u32])
+pub fn keep_segment(g: Segment, b: usize, starts: &mut [u32], sizes: &mut [u32])
     requires { ⌜ (2 * b + 1 < length (now starts)) × (2 * b + 1 < length (now sizes)) ⌝ }
     ensures { λ _. ⌜ ranged (now (starts .exit)) (now (sizes .exit)) (2 * (b + 1)) ≡ ranged (now (starts .entry)) (now (sizes .entry)) (2 * b) ++ within g ⌝ }
 {
@@ -248,4 +248,19 @@ pub fn ranges<'a>(
         sizes,
     );
     2 * words::word(table, 0) as usize
+}
+
+// The sum of so many sizes.
+pub fn total(sizes: &[u32], ranges: usize) -> usize
+    requires { ⌜ ranges ≤ 2048 ⌝ }
+    requires { ⌜ ranges ≤ length (now sizes) ⌝ }
+    ensures { λ r. ⌜ r ≡ sum (λ i. getD (now (sizes .entry)) i 0) ranges ⌝ }
+{
+    let mut sum: usize = 0;
+    let mut i: usize = 0;
+    while i < ranges {
+        sum = sum + sizes[i] as usize;
+        i = i + 1;
+    }
+    sum
 }

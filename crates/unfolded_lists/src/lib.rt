@@ -5,27 +5,12 @@ use unfolding::Found;
 ghost use mathlib.Core.Path.{_≡_};
 ghost use mathlib.Core.Bool.{true, false};
 ghost use Prim.Native.Nat.{_+_, _≤_};
-ghost use lib.ListN.{length, getD};
+ghost use lib.ListN.{length};
 ghost use lib.Seq.{sets};
-ghost use Rattle.lists.specs.Lists.{count, sum};
+ghost use Rattle.lists.specs.Lists.{count};
 ghost use Rattle.segments.specs.Ranges.{ranged};
 ghost use Rattle.unfolded_lists.specs.Calls.{unfoldedListOf, unfoldedListedOf};
 ghost use Rattle.unfolded_lists.specs.Puts.{Small, Fits};
-
-// The sum of so many sizes.
-fn total(sizes: &[u32], ranges: usize) -> usize
-    requires { ⌜ ranges ≤ 512 ⌝ }
-    requires { ⌜ ranges ≤ length (now sizes) ⌝ }
-    ensures { λ r. ⌜ r ≡ sum (λ i. getD (now (sizes .entry)) i 0) ranges ⌝ }
-{
-    let mut sum: usize = 0;
-    let mut i: usize = 0;
-    while i < ranges {
-        sum = sum + sizes[i] as usize;
-        i = i + 1;
-    }
-    sum
-}
 
 // The numbers of one range, put into a lent output from an element on.
 fn put_range(first: u32, size: u32, at: usize, out: &mut [u16])
@@ -85,7 +70,7 @@ fn write_list(table: &[u8], j: UnfoldedEvent, post: bool, out: &mut [u16]) -> Ju
         &mut starts,
         &mut sizes,
     );
-    let needed = total(&sizes, k);
+    let needed = segments::total(&sizes, k);
     if out.len() < needed {
         return refusal::refused(16, needed);
     }

@@ -47,7 +47,7 @@ ranges-requires c κs =
 
 total-requires : tie.Need-total-requires
 total-requires c κs =
-    (c .before .before .before .ranges .ensures .few, omega (arith, c .before .before .before .ranges .ensures .few))
+    (omega (arith, c .before .before .before .ranges .ensures .few), omega (arith, c .before .before .before .ranges .ensures .few))
 
 returns-3 : tie.Need-returns-3
 returns-3 c =

@@ -1,4 +1,4 @@
--- `unfolded_lists::total` meets its contract.
+-- `segments::total` meets its contract.
 use native.Mathlib.Omega.{arith}
 use mathlib.Core.Path.{_≡_, refl, _∙_, ap}
 use Prim.Native.Nat.{ℕ, _+_, _*_, _-_, _≤_}
@@ -6,8 +6,8 @@ use lib.ListN.{getD}
 use Rattle.lists.specs.Lists.{sum}
 use Rattle.layout.proofs.Counts.{sum-next}
 use borrow.Author.Needs.{needs}
-use Rattle.unfolded_lists.proofs.total.Statement.{statement}
-use Rattle.unfolded_lists.proofs.total.Tie as tie
+use Rattle.segments.proofs.total.Statement.{statement}
+use Rattle.segments.proofs.total.Tie as tie
 
 abbrev Inv-loop : tie.InvT-loop
 Inv-loop sizes ranges sum₀ i₀ total i =

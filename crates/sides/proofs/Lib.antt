@@ -1,0 +1,6 @@
+pub mod Without
+pub mod Raised
+pub mod Ones
+pub mod Bounds
+pub mod Shares
+pub mod Known
