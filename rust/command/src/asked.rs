@@ -1,6 +1,7 @@
 //! The words of the command.
 
 use std::path::Path;
+use std::slice;
 
 use crate::files::meant;
 use crate::stop::{Stop, Stopped};
@@ -12,6 +13,8 @@ pub enum Asked {
     List(Option<String>, Option<String>),
     Judge(String),
     Unfold(String),
+    Export(String),
+    Witness(String, String),
     Pack(String, String),
     Show(String, Vec<String>),
 }
@@ -30,25 +33,39 @@ dovetrellis: net tables with persistent conditions
                                   with its number, its event, the marker that it picks for each
                                   persistent precondition, and its two lists, then each unfolded
                                   condition with its condition, marker and user
+  dovetrellis export TABLE        write the unfolding as a place/transition net in PNML, for a model
+                                  checker: place pN is unfolded condition N, place qN has a token
+                                  while pN has none, transition tN is unfolded event N
+  dovetrellis witness TABLE TRACE read a checker's trace back as a run of the table, with what holds
+                                  at its end. TRACE is a file, or - for the standard input, with
+                                  transitions as t12 or 12 between blanks, commas or ends of lines;
+                                  a comment goes from # to the end of its line
   dovetrellis pack FILE [-o FOLDER]
                                   turn a text table into records: NAME.net.bin, and
                                   NAME.RUN.run.bin for each run, in FOLDER or else right here. They
                                   are written first and judged then, so refused ones are there too
   dovetrellis show TABLE [RUN...] write a table, and runs of it, as text that packs to the same bytes.
                                   RUN is a file; the runs of a text table are written anyway
-  dovetrellis build [WHAT...]     build 'library' and 'list' now; other commands build what they need
+  dovetrellis build [WHAT...]     build 'library', 'list' and 'export' now; other commands build what
+                                  they need
   dovetrellis help [COMMAND]      this, or what it says of one command
 
 TABLE is a file of records (docs/FORMAT.md) or a text table (docs/TEXT.md); its bytes tell which.
 What is refused is answered by one line, 'refused NUMBER at PLACE', and what that means is said
-beside it, on the error output (docs/REFUSALS.md has the list).
+beside it, on the error output (docs/REFUSALS.md has the list). Of an export that is refused the
+line goes there too, so that no file of a net begins with it.
 
-Exit status: 0 fine; 1 refused, or a text that is no table; 2 wrong use (no word at all is wrong use
-too), or something that is needed could not be read or built.
+Exit status: 0 fine; 1 refused, or a text that is no table or no trace; 2 wrong use (no word at all
+is wrong use too), or something that is needed could not be read or built.
 ";
 
 /// The commands, 'build' among them, which the script does itself.
-const COMMANDS: [&str; 7] = ["list", "judge", "unfold", "pack", "show", "build", "help"];
+const COMMANDS: [&str; 9] = [
+    "list", "judge", "unfold", "export", "witness", "pack", "show", "build", "help",
+];
+
+/// The word that stands for the standard input where a trace is asked for.
+pub const STANDARD_INPUT: &str = "-";
 
 /// The words that ask for help.
 const HELPS: [&str; 3] = ["help", "-h", "--help"];
@@ -141,6 +158,18 @@ fn asked_pack(words: &[String]) -> Stopped<Asked> {
     ))
 }
 
+/// The words of `witness`: a table and a trace, which may be the standard input.
+fn asked_witness(words: &[String]) -> Stopped<Asked> {
+    let (table, rest) = first(words, "TABLE")?;
+    no_options(slice::from_ref(table))?;
+    let (trace, rest) = first(rest, "TRACE")?;
+    if trace != STANDARD_INPUT {
+        no_options(slice::from_ref(trace))?;
+    }
+    nothing_after(rest)?;
+    Ok(Asked::Witness(table.clone(), trace.clone()))
+}
+
 /// What the words ask for.
 pub fn asked(words: &[String]) -> Stopped<Asked> {
     let Some((command, rest)) = words.split_first() else {
@@ -167,6 +196,7 @@ fn asked_of(command: &str, rest: &[String]) -> Stopped<Asked> {
             nothing_after(rest.get(2..).unwrap_or_default())?;
             Ok(Asked::List(rest.first().cloned(), rest.get(1).cloned()))
         }
+        "witness" => asked_witness(rest),
         "build" => Err(Stop::Use("only the script builds".to_string())),
         _ => asked_of_table(command, rest),
     }
@@ -183,6 +213,7 @@ fn asked_of_table(command: &str, rest: &[String]) -> Stopped<Asked> {
     nothing_after(rest)?;
     match command {
         "judge" => Ok(Asked::Judge(table)),
+        "export" => Ok(Asked::Export(table)),
         _ => Ok(Asked::Unfold(table)),
     }
 }

@@ -1,8 +1,10 @@
-//! The command `dovetrellis`: lists, judges, unfolds, packs and shows tables. Every answer comes from the proved library, asked over
-//! its driver, or from the proved program `list`; this crate finds the files, turns text into records and words what comes back. Only
-//! the condition that stopped a step it looks up by itself, in the marking that they gave.
+//! The command `dovetrellis`: lists, judges, unfolds, exports, packs and shows tables, and reads a checker's traces back. Every answer
+//! comes from the proved library, asked over its driver, or from the proved programs `list` and `export`; this crate finds the files,
+//! turns text into records and words what comes back. Only the condition that stopped a step it looks up by itself, in the marking
+//! that they gave.
 
 pub mod asked;
+pub mod export;
 pub mod files;
 pub mod judge;
 pub mod list;
@@ -13,3 +15,4 @@ pub mod stop;
 pub mod telling;
 pub mod tools;
 pub mod unfold;
+pub mod witness;

@@ -13,9 +13,9 @@ use crate::tools;
 /// The record of a run without steps.
 const NO_STEPS: [u8; 4] = [0, 0, 4, 0];
 
-/// The refusal that a listing consists of, if it is one.
-fn refusal_of(listing: &str) -> Option<Refusal> {
-    let (number, place) = listing
+/// The refusal that the text of a program consists of, if it is one.
+pub fn refusal_of(text: &str) -> Option<Refusal> {
+    let (number, place) = text
         .strip_prefix("refused ")?
         .trim_end()
         .split_once(" at ")?;

@@ -6,7 +6,7 @@ use std::process::ExitCode;
 
 use command::asked::{asked, Asked};
 use command::stop::{Stop, Stopped};
-use command::{judge, list, pack, unfold};
+use command::{export, judge, list, pack, unfold, witness};
 
 /// Does what is asked; the answer goes to the given output.
 fn act(asked: Asked, out: &mut impl Write) -> Stopped<()> {
@@ -15,6 +15,8 @@ fn act(asked: Asked, out: &mut impl Write) -> Stopped<()> {
         Asked::List(table, run) => list::list(table.as_deref(), run.as_deref(), out),
         Asked::Judge(table) => judge::judge(&table, out),
         Asked::Unfold(table) => unfold::unfold(&table, out),
+        Asked::Export(table) => export::export(&table, out),
+        Asked::Witness(table, trace) => witness::witness(&table, &trace, out),
         Asked::Pack(file, folder) => pack::pack(&file, &folder, out),
         Asked::Show(table, runs) => pack::show(&table, &runs, out),
     }

@@ -7,12 +7,9 @@ use std::path::Path;
 use wire::{whole, Failure};
 
 use crate::files::plain;
-use crate::source::{self, read_run, read_text, RunSource};
+use crate::source::{self, read_run, read_text, RunSource, MOST_STEPS};
 use crate::stop::{Stop, Stopped};
 use crate::tools;
-
-/// The most steps of a run.
-const MOST_STEPS: usize = 4096;
 
 /// Why a folder cannot be made.
 fn no_folder(folder: &str, error: io::Error) -> Stop {

@@ -31,6 +31,9 @@ pub struct RunSource {
     pub places: Vec<Place>,
 }
 
+/// The most steps of a run.
+pub const MOST_STEPS: usize = 4096;
+
 /// The most bytes of a record file that the library is asked with; no table that it accepts has a tenth of them.
 const MOST_BYTES: usize = 4_000_000;
 

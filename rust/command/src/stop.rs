@@ -32,6 +32,8 @@ impl Told {
 pub enum Stop {
     /// The library refused the table or the run.
     Refused(Told),
+    /// The library or a program refused the table, and the output is a file's, so that nothing but the answer may go there.
+    Withheld(Told),
     /// A text cannot be turned into records; the line says where and why.
     Text(String),
     /// The words of the command are wrong.
@@ -48,7 +50,7 @@ pub enum Stop {
 pub type Stopped<T> = Result<T, Stop>;
 
 impl Stop {
-    /// Says what happened: a refusal's one line goes to the output, everything else to the error output.
+    /// Says what happened: a refusal's one line goes to the output unless that is a file's, everything else to the error output.
     pub fn tell(&self, out: &mut impl Write) {
         match self {
             Stop::Refused(told) => {
@@ -56,6 +58,7 @@ impl Stop {
                 let _ = writeln!(out, "{}", told.line()).and_then(|()| out.flush());
                 eprintln!("{}", told.words());
             }
+            Stop::Withheld(told) => eprintln!("{}\n{}", told.line(), told.words()),
             Stop::Text(line) | Stop::Failed(line) => eprintln!("dovetrellis: {line}"),
             Stop::Use(line) => {
                 eprintln!("dovetrellis: {line}\n'dovetrellis help' tells the commands")
@@ -69,7 +72,7 @@ impl Stop {
     pub fn status(&self) -> u8 {
         match self {
             Stop::Unread => 0,
-            Stop::Refused(..) | Stop::Text(_) => 1,
+            Stop::Refused(_) | Stop::Withheld(_) | Stop::Text(_) => 1,
             Stop::Use(_) | Stop::Unasked | Stop::Failed(_) => 2,
         }
     }

@@ -46,7 +46,7 @@ fn due_in_table(number: u64, offset: usize, kind: Option<u8>) -> Option<&'static
 }
 
 /// What a refusal's number means, and more about it, if more is known.
-fn meaning_with(number: u64, more: Option<&str>) -> String {
+pub fn meaning_with(number: u64, more: Option<&str>) -> String {
     match more {
         Some(more) => format!("{}: {more}", meaning(number)),
         None => meaning(number).to_string(),

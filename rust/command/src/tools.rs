@@ -1,4 +1,4 @@
-//! What the script at the top of the repository builds: the driver of the proved library, and the proved program `list`.
+//! What the script at the top of the repository builds: the driver of the proved library, and the proved programs.
 
 use std::path::PathBuf;
 use std::process::{Command, Stdio};
@@ -30,9 +30,19 @@ pub fn library() -> Stopped<Driver> {
 
 /// The command that runs the proved program `list`.
 pub fn list_program() -> Stopped<Command> {
-    built("list", "the program 'list'")?;
-    let missing = || Stop::Failed("DOVETRELLIS_LIST names no listing program".to_string());
-    let program = std::env::var("DOVETRELLIS_LIST").map_err(|_| missing())?;
+    proved_program("list", "DOVETRELLIS_LIST")
+}
+
+/// The command that runs the proved program `export`.
+pub fn export_program() -> Stopped<Command> {
+    proved_program("export", "DOVETRELLIS_EXPORT")
+}
+
+/// The command that runs a proved program, which a variable of the environment names.
+fn proved_program(name: &str, variable: &str) -> Stopped<Command> {
+    built(name, &format!("the program '{name}'"))?;
+    let missing = || Stop::Failed(format!("{variable} names no program '{name}'"));
+    let program = std::env::var(variable).map_err(|_| missing())?;
     let runner = std::env::var("RATTLE_RUN").unwrap_or_default();
     let mut words = runner.split_whitespace().chain([program.as_str()]);
     let first = words.next().ok_or_else(missing)?;

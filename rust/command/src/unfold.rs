@@ -49,29 +49,39 @@ fn picks(table: &Source, event: u16, markers: &[u32]) -> String {
     format!(" ({})", picked.join(", "))
 }
 
-/// A line for an unfolded event: number, event, what marked each persistent precondition, and the two lists.
-fn event_line(library: &mut Driver, table: &Source, number: u16) -> Answer<String> {
-    let bytes = &table.bytes;
+/// What an unfolded event is called: its event, and what marked each persistent precondition.
+pub fn unfolded_called(library: &mut Driver, table: &Source, number: u16) -> Answer<String> {
     let mut markers = [0; 16];
-    let origin = library.event_origin(bytes, number, &mut markers)?;
-    let pre = whole(ROOM, |out| library.unfolded_pre(bytes, number, out))?;
-    let post = whole(ROOM, |out| library.unfolded_post(bytes, number, out))?;
+    let origin = library.event_origin(&table.bytes, number, &mut markers)?;
     let event = event_called(table, origin.event);
-    let picks = picks(table, origin.event, &markers);
-    let (pre, post) = (set_text(&pre), set_text(&post));
-    Ok(format!("{number}: {event}{picks}: {pre} -> {post}"))
+    Ok(event + &picks(table, origin.event, &markers))
 }
 
-/// A line for an unfolded condition: number, condition, and for a copy its marker and its user.
-fn condition_line(library: &mut Driver, table: &Source, number: u16) -> Answer<String> {
+/// The two lists of an unfolded event.
+pub fn lists(library: &mut Driver, table: &Source, number: u16) -> Answer<[Vec<u16>; 2]> {
+    let bytes = &table.bytes;
+    let pre = whole(ROOM, |out| library.unfolded_pre(bytes, number, out))?;
+    let post = whole(ROOM, |out| library.unfolded_post(bytes, number, out))?;
+    Ok([pre, post])
+}
+
+/// A line for an unfolded event: number, event, what marked each persistent precondition, and the two lists.
+fn event_line(library: &mut Driver, table: &Source, number: u16) -> Answer<String> {
+    let called = unfolded_called(library, table, number)?;
+    let [pre, post] = lists(library, table, number)?.map(|list| set_text(&list));
+    Ok(format!("{number}: {called}: {pre} -> {post}"))
+}
+
+/// What an unfolded condition is called: its condition, and for a copy its marker and its user.
+pub fn condition_called(library: &mut Driver, table: &Source, number: u16) -> Answer<String> {
     let origin = library.condition_origin(&table.bytes, number)?;
     let name = table.table.condition_name(origin.condition);
     Ok(match origin.copy {
-        None => format!("{number}: {name}"),
+        None => name,
         Some(copy) => {
             let marker = marker_called(table, copy.marker);
             let user = event_called(table, copy.user);
-            format!("{number}: {name} by {marker} for {user}")
+            format!("{name} by {marker} for {user}")
         }
     })
 }
@@ -100,8 +110,8 @@ pub fn unfold(path: &str, out: &mut impl Write) -> Stopped<()> {
     }
     writeln!(out, "\nunfolded conditions")?;
     for number in (0..=u16::MAX).take(counts.conditions as usize) {
-        let line = condition_line(&mut library, &table, number).map_err(told)?;
-        writeln!(out, "{line}")?;
+        let called = condition_called(&mut library, &table, number).map_err(told)?;
+        writeln!(out, "{number}: {called}")?;
     }
     Ok(())
 }

@@ -151,7 +151,7 @@ fn what_can_be_built_is_told() {
     let mut command = Command::new(repository.path().join("dovetrellis"));
     let output = command.args(["build", "lisst"]).output().unwrap();
     assert_eq!(output.status.code(), Some(2));
-    let expected =
-        "dovetrellis: there is nothing called 'lisst' to build, only 'library' and 'list'\n";
+    let expected = "dovetrellis: there is nothing called 'lisst' to build, \
+        only 'library', 'list' and 'export'\n";
     assert_eq!(said(&output), expected);
 }

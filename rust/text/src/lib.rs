@@ -14,7 +14,7 @@ pub use near::nearest;
 pub use records::{steps_of, Part};
 pub use show::{list_text, set_text};
 pub use table::{Condition, Event, Run, Table};
-pub use trouble::{Place, Trouble};
+pub use trouble::{quoted, Place, Trouble};
 
 /// Where a byte is a control character other than a tab and the ends of lines.
 pub fn control_at(bytes: &[u8]) -> Option<usize> {

@@ -2,7 +2,7 @@
 
 use std::fmt::Write;
 
-use crate::table::{Condition, Table};
+use crate::table::{Condition, Run, Table};
 
 /// The columns that a line of text fills at most, if its words allow.
 const WIDTH: usize = 100;
@@ -124,15 +124,20 @@ impl Table {
         let start = joined(&self.words(&self.start), 8);
         let _ = writeln!(text, "\nstart: {{{start}}}");
         for run in &self.runs {
-            let name = run
-                .name
-                .as_ref()
-                .map(|name| format!(" {name}"))
-                .unwrap_or_default();
-            let steps: Vec<String> = run.steps.iter().map(|e| self.event_name(*e)).collect();
-            let steps = joined(&steps, name.chars().count() + 5);
-            let _ = writeln!(text, "\n{}", format!("run{name}: {steps}").trim_end());
+            let _ = writeln!(text, "\n{}", self.run_text(run));
         }
         text
+    }
+
+    /// A run of the table as text, by the names of its events where there are names.
+    pub fn run_text(&self, run: &Run) -> String {
+        let name = run
+            .name
+            .as_ref()
+            .map(|name| format!(" {name}"))
+            .unwrap_or_default();
+        let steps: Vec<String> = run.steps.iter().map(|e| self.event_name(*e)).collect();
+        let steps = joined(&steps, name.chars().count() + 5);
+        format!("run{name}: {steps}").trim_end().to_string()
     }
 }
