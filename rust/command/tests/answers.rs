@@ -94,6 +94,13 @@ fn help_and_wrong_use() {
         (&["help", "list", "judge"], "'judge' is one word too many"),
         (&["judge"], "TABLE is missing"),
         (&["judge", "net-a.txt", "x"], "'x' is one word too many"),
+        (&["export"], "TABLE is missing"),
+        (&["export", "net-a.txt", "net-a.pnml"], "'net-a.pnml' is one word too many"),
+        (&["witness"], "TABLE is missing"),
+        (&["witness", "net-a.txt"], "TRACE is missing"),
+        (&["witness", "-", "-"], "'-' is no file; the standard input is /dev/stdin"),
+        (&["witness", "net-a.txt", "-v"], "there is no option '-v' here; a file of that name is './-v'"),
+        (&["witness", "net-a.txt", "-", "x"], "'x' is one word too many"),
         (&["list", "a", "b", "c"], "'c' is one word too many"),
         (&["pack", "net-a.txt", "-o"], "a folder is missing after -o"),
         (&["pack", "net-a.txt", "-o", "a", "-o", "b"], "-o is there twice"),
@@ -122,7 +129,9 @@ fn help_tells_of_one_command() {
         list.contains("\nExit status: 0 fine;") && !list.contains("judge"),
         "{list}"
     );
-    for command in ["list", "judge", "unfold", "pack", "show"] {
+    for command in [
+        "list", "judge", "unfold", "export", "witness", "pack", "show",
+    ] {
         let said = fine(&["help", command]);
         assert!(
             said.starts_with(&format!("  dovetrellis {command} ")),
@@ -149,6 +158,8 @@ fn the_command_that_is_meant_is_named() {
         ("List", "list"),
         ("shwo", "show"),
         ("unflod", "unfold"),
+        ("exprot", "export"),
+        ("witnes", "witness"),
         ("bulid", "build"),
         ("--hlep", "help"),
     ] {
@@ -165,7 +176,7 @@ fn a_text_that_is_no_table_is_told() {
         .write("bad.txt", b"conditions: a\nx: {b} -> {}\nstart: {}\n")
         .unwrap();
     let said = "dovetrellis: bad.txt: line 2, column 5: expected the name or number of a condition, found `b`, which is none\n";
-    for command in ["judge", "unfold", "pack", "show", "list"] {
+    for command in ["judge", "unfold", "export", "pack", "show", "list"] {
         let ran = ran_in(folder.path(), &[command, "bad.txt"]);
         assert_eq!(
             (ran.status, ran.out.as_str(), ran.err.as_str()),
@@ -506,7 +517,7 @@ fn why_a_file_cannot_be_read_is_told() {
         ("net.txt/x", "a file stands where its folder should"),
         ("link", "this is a link to a file that is not there"),
     ] {
-        for command in ["judge", "list", "pack", "show", "unfold"] {
+        for command in ["judge", "list", "pack", "show", "unfold", "export"] {
             let ran = ran_in(folder.path(), &[command, path]);
             let said = format!("dovetrellis: {path}: {said}\n");
             assert_eq!((ran.status, ran.out.as_str(), ran.err), (2, "", said));
