@@ -5,6 +5,7 @@ where it would pass MOST markings (1,000,000 if it is not given); the exit statu
 """
 
 import sys
+import time
 
 import parse
 
@@ -56,8 +57,10 @@ def main(words):
     except (parse.Wrong, OSError, ValueError) as wrong:
         print(f"checker/search: {words[0]}: {wrong}", file=sys.stderr)
         return 2
+    begun = time.process_time()
     count, whole = reached(*plain(net), most)
-    print(f"{count} markings" if whole else f"over {count} markings")
+    took = time.process_time() - begun
+    print(f"{count} markings{'' if whole else ' and more'} (processor time: searching {took:.1f} s)")
     return 0 if whole else 1
 
 

@@ -91,8 +91,14 @@ def promela(net, never):
     return f"{arrays}\nactive proctype net() {{\nend:\n    do\n{body}    od\n}}\n"
 
 
+def processor():
+    """The processor time of all tools that have ended."""
+    used = resource.getrusage(resource.RUSAGE_CHILDREN)
+    return used.ru_utime + used.ru_stime
+
+
 class Bounded:
-    """Runs tools in a folder, within bounds of time and memory, and adds up the time."""
+    """Runs tools in a folder, within bounds of time and memory, and adds up their processor time."""
 
     def __init__(self, folder, seconds, megabytes):
         self.folder = folder
@@ -103,13 +109,13 @@ class Bounded:
 
     def run(self, what, *words):
         """What a tool writes."""
-        begun = time.monotonic()
+        before = processor()
         most = self.megabytes << 20
         try:
             done = subprocess.run(
                 words,
                 cwd=self.folder,
-                timeout=max(self.until - begun, 0.1),
+                timeout=max(self.until - time.monotonic(), 0.1),
                 preexec_fn=lambda: resource.setrlimit(resource.RLIMIT_AS, (most, most)),
                 stdin=subprocess.DEVNULL,
                 stdout=subprocess.PIPE,
@@ -121,7 +127,7 @@ class Bounded:
         except subprocess.TimeoutExpired as error:
             raise parse.Wrong(f"{what} came to no end in {self.seconds} seconds together with what was before") from error
         finally:
-            self.took[what] = self.took.get(what, 0) + time.monotonic() - begun
+            self.took[what] = self.took.get(what, 0) + processor() - before
         if done.returncode:
             last = "\n".join(done.stdout.splitlines()[-5:])
             raise parse.Wrong(f"{what} failed ({done.returncode}) within {self.megabytes} megabytes:\n{last}")
@@ -199,7 +205,7 @@ def check(asked, folder):
     tools = Bounded(folder, asked.seconds, asked.megabytes)
     states, way = searched(tools, half)
     took = ", ".join(f"{what} {seconds:.1f} s" for what, seconds in tools.took.items())
-    say(f"{states} markings, all of them searched ({took})")
+    say(f"{states} markings, all of them searched (processor time: {took})")
     if not never:
         return 0
     wanted = f"never {' and '.join(asked.never)}"

@@ -12,6 +12,7 @@ use command::lister::{listing_in, Folder};
 use command::tools::export_program;
 use second::export::Doubled;
 use second::generator::{damaged, endless_net, event_limit_net, middle_net, small_net, Random};
+use second::plain::reached_unfolded;
 use second::table::{read_table, table_bytes, Event, Net};
 use second::unfolding::unfold;
 
@@ -143,7 +144,13 @@ fn generated_files_and_every_refusal() {
     assert!(missing.is_empty(), "no case was refused by {missing:?}");
 }
 
-// ---- the command
+// ---- the examples and the command
+
+/// The records of an example's table.
+fn example(name: &str) -> Vec<u8> {
+    let path = Path::new(TOP).join(format!("examples/{name}.txt"));
+    text::read(&fs::read(path).unwrap()).unwrap().bytes()
+}
 
 /// The command among the examples.
 fn command(words: &[&str]) -> Command {
@@ -185,16 +192,56 @@ fn the_examples_are_exported() {
         "net-e-marked",
         "changeover",
     ] {
-        let file = format!("{name}.txt");
-        let text = fs::read(Path::new(TOP).join("examples").join(&file)).unwrap();
-        let table = text::read(&text).unwrap().bytes();
-        let came = came_of(command(&["export", &file]).output().unwrap());
+        let table = example(name);
+        let came = came_of(
+            command(&["export", &format!("{name}.txt")])
+                .output()
+                .unwrap(),
+        );
         assert!(
             came == (expected(&table), String::new(), 0),
             "{name}: {}",
             came.1
         );
     }
+}
+
+/// The most markings of an example that are searched here.
+const MOST_MARKINGS: usize = 10_000;
+
+#[test]
+fn the_page_counts_the_markings_of_the_unfolded_nets() {
+    let page = fs::read_to_string(Path::new(TOP).join("docs/CHECKER.md")).unwrap();
+    let rows = page
+        .lines()
+        .filter(|line| line.starts_with("| `") && line.ends_with(" s |"));
+    let mut counted = 0;
+    for row in rows {
+        let cells: Vec<&str> = row.split(" | ").collect();
+        let name = cells[0].trim_matches(['|', ' ', '`']);
+        let [bytes, places, events, _, by_spin, by_search] =
+            [1, 2, 3, 4, 5, 6].map(|cell| cells[cell].parse::<usize>().unwrap());
+        assert_eq!(by_spin, by_search, "{name}");
+        if by_spin > MOST_MARKINGS {
+            continue;
+        }
+        let table = example(name);
+        let unfolding = unfold(&read_table(&table).unwrap().net).unwrap();
+        let counts = (2 * unfolding.conditions.len(), unfolding.events.len());
+        assert_eq!(
+            (expected(&table).len(), counts),
+            (bytes, (places, events)),
+            "{name}"
+        );
+        let reached = reached_unfolded(&unfolding, MOST_MARKINGS);
+        assert_eq!(
+            (reached.markings.len(), reached.whole),
+            (by_spin, true),
+            "{name}"
+        );
+        counted += 1;
+    }
+    assert_eq!(counted, 9);
 }
 
 #[test]

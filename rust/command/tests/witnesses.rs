@@ -71,6 +71,19 @@ fn a_trace_is_told_by_the_names_of_the_table() {
 }
 
 #[test]
+fn the_page_shows_what_the_witness_is_read_back_as() {
+    let page = fs::read_to_string(Path::new(TOP).join("docs/CHECKER.md")).unwrap();
+    let blocks: Vec<&str> = page.split("```\n").skip(1).step_by(2).collect();
+    assert_eq!(
+        run_of("examples/changeover-wrong.txt", blocks[0]),
+        blocks[1]
+    );
+    let small = run_of("examples/net-a.txt", "t0 t2 t3 t2");
+    let indented: String = small.lines().map(|line| format!("    {line}\n")).collect();
+    assert!(page.contains(&indented), "{indented}");
+}
+
+#[test]
 fn what_is_told_goes_into_the_table_as_a_run() {
     let table = fs::read_to_string(Path::new(TOP).join("examples/changeover-wrong.txt")).unwrap();
     let told = run_of(
