@@ -14,5 +14,6 @@ pub mod source;
 pub mod stop;
 pub mod telling;
 pub mod tools;
+pub mod trace;
 pub mod unfold;
 pub mod witness;

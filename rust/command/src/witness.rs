@@ -2,100 +2,15 @@
 
 use std::io::Write;
 
-use text::{quoted, Place, Run, Trouble};
+use text::Run;
 use wire::{Answer, Driver, Failure, Refusal};
 
-use crate::asked::STANDARD_INPUT;
-use crate::files::bytes_of;
 use crate::source::{self, Source, MOST_STEPS};
 use crate::stop::{Stop, Stopped, Told};
 use crate::telling::{counted, held, meaning_with};
 use crate::tools;
+use crate::trace::{self, Trace};
 use crate::unfold::{condition_called, lists, unfolded_called};
-
-/// A trace as it is given.
-struct Trace {
-    /// What it is called in messages.
-    called: String,
-    /// The numbers of its unfolded events.
-    steps: Vec<u16>,
-    /// Where each of them stands.
-    places: Vec<Place>,
-}
-
-/// The words of a line up to its comment, each with its place.
-fn words(line: usize, said: &str) -> impl Iterator<Item = (Place, &str)> {
-    let said = said.split('#').next().unwrap_or_default();
-    let parts = said.split(|c: char| c.is_whitespace() || c == ',');
-    let placed = parts.scan(1, move |next, word| {
-        let column = *next;
-        *next += word.chars().count() + 1;
-        Some((Place { line, column }, word))
-    });
-    placed.filter(|(_, word)| !word.is_empty())
-}
-
-/// The digits after a letter, if a word consists of the two.
-fn digits_after(letter: &str, word: &str) -> Option<String> {
-    let digits = word.strip_prefix(letter).filter(|rest| !rest.is_empty())?;
-    let all = digits.bytes().all(|byte| byte.is_ascii_digit());
-    all.then(|| digits.to_string())
-}
-
-/// What a word that names no transition is told as.
-fn found(word: &str) -> String {
-    let known = [("p", "a place"), ("q", "a place"), ("a", "an arc")];
-    let known = known
-        .into_iter()
-        .find(|(letter, _)| digits_after(letter, word).is_some());
-    match known {
-        Some((_, what)) => format!("{}, which is {what}", quoted(word)),
-        None => quoted(word),
-    }
-}
-
-/// The unfolded event that a word names: a number, as it is or after a `t`.
-fn transition(place: Place, word: &str) -> Result<u16, Trouble> {
-    let digits = digits_after("t", word).or_else(|| digits_after("", word));
-    let expected = match digits {
-        Some(_) => format!("the number of an unfolded event, at most {}", u16::MAX),
-        None => "a transition, as t12 or 12".to_string(),
-    };
-    let number = digits.and_then(|digits| digits.parse().ok());
-    number.ok_or_else(|| Trouble {
-        place,
-        expected,
-        found: found(word),
-    })
-}
-
-/// The trace of a file, or of the standard input.
-fn read(given: &str) -> Stopped<Trace> {
-    let (path, called) = match given {
-        STANDARD_INPUT => ("/dev/stdin", "the standard input"),
-        path => (path, path),
-    };
-    let wrong = |what: String| Stop::Text(format!("{called}: {what}"));
-    let bytes = bytes_of(path)?;
-    let text = String::from_utf8_lossy(&bytes);
-    let words = (1..)
-        .zip(text.lines())
-        .flat_map(|(line, said)| words(line, said));
-    let steps = words.map(|(place, word)| Ok((transition(place, word)?, place)));
-    let steps: Result<Vec<(u16, Place)>, Trouble> = steps.collect();
-    let steps = steps.map_err(|trouble| wrong(trouble.to_string()))?;
-    if steps.is_empty() {
-        return Err(wrong(
-            "no transition stands in it, so there is no run to tell".to_string(),
-        ));
-    }
-    let (steps, places) = steps.into_iter().unzip();
-    Ok(Trace {
-        called: called.to_string(),
-        steps,
-        places,
-    })
-}
 
 /// The unfolded condition that stops a step of a trace, by the number of its refusal.
 fn stopped_by(
@@ -208,7 +123,7 @@ fn projected(library: &mut Driver, table: &Source, trace: &Trace) -> Stopped<Run
 /// Writes the run of a table that a trace is a run of in the exported net, and what holds at its end.
 pub fn witness(table: &str, trace: &str, out: &mut impl Write) -> Stopped<()> {
     let table = source::read(table)?;
-    let trace = read(trace)?;
+    let trace = trace::read(trace)?;
     let mut library = tools::library()?;
     let run = projected(&mut library, &table, &trace)?;
     let mut end = vec![0; table.table.conditions.len()];

@@ -11,11 +11,11 @@ use command::lister::Folder;
 /// The top of the repository.
 const TOP: &str = concat!(env!("CARGO_MANIFEST_DIR"), "/../..");
 
-/// A kit that says when it begins, takes a second, builds the program 'list' and counts how often it did.
+/// A kit that says when it begins, takes a second, builds the program that it is to check and counts how often it did.
 const SLOW: &str = "#!/usr/bin/env bash
 echo 'rt: begun'
 sleep 1
-mkdir -p target/bin && echo built > target/bin/list && echo one >> built
+mkdir -p target/bin && echo built > \"target/bin/$2\" && echo one >> built
 ";
 
 /// A kit that proves nothing.
@@ -142,6 +142,23 @@ fn each_failed_build_names_its_own_log() {
     for log in logs {
         assert_eq!(fs::read_to_string(log).unwrap(), "why it failed\n");
     }
+}
+
+#[test]
+fn each_program_is_built_by_its_own_check() {
+    let _one = one_test();
+    let repository = repository(SLOW, &[]);
+    let mut command = Command::new(repository.path().join("dovetrellis"));
+    command.args(["build", "export"]);
+    command.env("PATH", repository.path().join("bin"));
+    let told = said(&command.output().unwrap());
+    assert!(
+        told.starts_with("dovetrellis: proving and building the program 'export' (once,"),
+        "{told}"
+    );
+    let built = |program: &str| repository.path().join("target/bin").join(program).exists();
+    assert!(built("export") && !built("list"));
+    assert_eq!(said(&command.output().unwrap()), "");
 }
 
 #[test]

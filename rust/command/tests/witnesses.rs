@@ -164,6 +164,8 @@ fn what_is_no_trace_is_told() {
         ("connect-b", "line 1, column 1: expected a transition, as t12 or 12, found `connect-b`"),
         ("65536", "line 1, column 1: expected the number of an unfolded event, at most 65535, found `65536`"),
         ("t99999999999999999999999", "line 1, column 1: expected the number of an unfolded event, at most 65535, found `t99999999999999999999999`"),
+        ("\u{2}\0\u{5}\0\u{1}\0", "this is no trace; it looks like the record of a lifted run"),
+        ("t1\u{1b}", "byte 2 is a control character, so this is no trace"),
         ("", "no transition stands in it, so there is no run to tell"),
         ("# nothing found\n", "no transition stands in it, so there is no run to tell"),
     ] {
