@@ -26,6 +26,9 @@ import parse
 
 TOP = os.path.dirname(os.path.dirname(os.path.abspath(__file__)))
 
+# from the name of a place to that of the other place of its number
+OTHER = str.maketrans("pq", "qp")
+
 
 class Doubled:
     """An exported net by its numbers: the tokens of its first and second places, and what its transitions take and change."""
@@ -58,10 +61,6 @@ class Doubled:
             other = {place.translate(OTHER) for place in lost}
             if other != set(gained) or len(set(lost)) != len(lost) or len(set(gained)) != len(gained):
                 raise parse.Wrong(f"{transition} does not keep the token of two places of one number")
-
-
-# from the name of a place to that of the other place of its number
-OTHER = str.maketrans("pq", "qp")
 
 
 def element(place):
