@@ -21,7 +21,7 @@ use Rattle.sides.proofs.Bounds.{Small}
 use Rattle.sides.proofs.Raised.{raise}
 use Rattle.sides.proofs.Shares.{unread-shared, read-shared, ordinary-shared}
 
-module _ {s us bs mk uz ch bf af : List ℕ} {e rest : ℕ} (k : Sided s us bs mk uz ch bf af e rest) (b : ℕ) (h : b < netOf s .conditions) where
+module _ {s us bs mk uz ch pre bf af : List ℕ} {e rest : ℕ} (k : Sided s us bs mk uz ch pre bf af e rest) (b : ℕ) (h : b < netOf s .conditions) where
   abbrev wide : ℕ
   wide = getD us b 0
 
@@ -34,7 +34,7 @@ module _ {s us bs mk uz ch bf af : List ℕ} {e rest : ℕ} (k : Sided s us bs m
   abbrev one : ℕ
   one = getD bs b 0 + getD ch b 0 * wide + getD uz b 0
 
-  in-pre : (t : Bool) → oneAt bf b ≡ t → mem b (words (k .pre)) ≡ t
+  in-pre : (t : Bool) → oneAt bf b ≡ t → mem b (words pre) ≡ t
   in-pre t z = ap (mem b) (k .taking .reading) ∙ sym (k .taking .listing b) ∙ z
 
   module _ (q : flagged s b ≡ true) where
@@ -89,7 +89,7 @@ module _ {s us bs mk uz ch bf af : List ℕ} {e rest : ℕ} (k : Sided s us bs m
       go false q t z = plainly q side
 
 -- what the first conditions add, by their shares
-module _ {s us bs mk uz ch bf af : List ℕ} {e rest : ℕ} (k : Sided s us bs mk uz ch bf af e rest) (side : Side) where
+module _ {s us bs mk uz ch pre bf af : List ℕ} {e rest : ℕ} (k : Sided s us bs mk uz ch pre bf af e rest) (side : Side) where
   abbrev byShare : ℕ → List ℕ
   byShare b = within (sideOf side (shareAt s us bs mk uz ch bf af b))
 

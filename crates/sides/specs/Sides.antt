@@ -31,7 +31,6 @@ partedOf taken first size =
     (aloneOf first size))
 
 -- All that is read of one unfolded event: what is known of it with the members of its preconditions, and with those of its postconditions.
-pub record Sided (s users bases marks uses chosen before after : List ℕ) (e rest : ℕ) : Type 0 where
-  pub pre : List ℕ
+pub record Sided (s users bases marks uses chosen pre before after : List ℕ) (e rest : ℕ) : Type 0 where
   pub taking : Known s users bases marks uses chosen pre before false e rest
   pub putting : Known s users bases marks uses chosen pre after true e rest

@@ -6,7 +6,7 @@ ghost use mathlib.Core.List.{map};
 ghost use Prim.Native.Nat.{_+_, _*_, _≤_};
 ghost use lib.ListN.{length};
 ghost use Rattle.lists.specs.Lists.{count, spread};
-ghost use Rattle.records.specs.Records.{conditions};
+ghost use Rattle.records.specs.Records.{conditions, prePart};
 ghost use Rattle.table.specs.Decoded.{netOf};
 ghost use Rattle.segments.specs.Ranges.{ranged, within, eventAt};
 ghost use Rattle.sides.specs.Sides.{addedOn, partedOf, Sided};
@@ -150,7 +150,7 @@ pub fn lay_side<'a>(
     starts: &mut [u32],
     sizes: &mut [u32],
 )
-    requires { ⌜ Sided (now table) (now users) (now bases) (now marks) (now uses) (now chosen) (now before) (now after) (own .event) (own .rest) ⌝ }
+    requires { ⌜ Sided (now table) (now users) (now bases) (now marks) (now uses) (now chosen) (prePart (now table) (own .at)) (now before) (now after) (own .event) (own .rest) ⌝ }
     requires { ⌜ conditions (now table) ≡ netOf (now table) .conditions ⌝ }
     requires { ⌜ (2 * conditions (now table) ≤ length (now starts)) × (2 * conditions (now table) ≤ length (now sizes)) ⌝ }
     requires { ⌜ shift ≤ 65535 ⌝ }
