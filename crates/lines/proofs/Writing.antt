@@ -27,7 +27,8 @@ use Rattle.lines.specs.declared.Place.{Place}
 use Rattle.lines.specs.declared.Place.the-variants.{Start, Step, End, More, Last, Over}
 use Rattle.lines.specs.declared.Written.{Written}
 use Rattle.lines.specs.Places.{stepFrom, moreFrom, nextAt, goesOn, fired, shownAt, stepText, textAt, writtenAt, leftAt}
-use Rattle.lines.specs.Needs.{InRun, Steady, Ready, Puts}
+use Rattle.spelling.specs.Puts.{Puts}
+use Rattle.lines.specs.Needs.{InRun, Steady, Ready}
 
 -- ---- a piece written
 
@@ -71,9 +72,6 @@ fired-lent n l e h = go (stopping n (marking l) e)
 
 pub same-text : {x y out : List ℕ} {count : ℕ} {after : List ℕ} → x ≡ y → Puts x out count after → Puts y out count after
 same-text {x} {y} {out} {count} {after} e p = subst (λ (t : List ℕ). Puts t out count after) e p
-
-pub put-within : {x out : List ℕ} {count : ℕ} {after : List ℕ} → Puts x out count after → count ≤ length after
-put-within {x} {out} p = omega (arith, p .told, ap length (p .stored), length-append x (drop (length x) out))
 
 -- The line of a step, by the numbers that the run and its lift have there.
 pub step-put : (r w l : List ℕ) (k : ℕ) {e u : ℕ} {out : List ℕ} {count : ℕ} {after : List ℕ} → e ≡ getD r k 0 → u ≡ getD w k 0

@@ -1,8 +1,8 @@
 -- What the inner functions need and leave.
 use mathlib.Core.Path.{_≡_}
-use mathlib.Core.List.{List, _++_}
+use mathlib.Core.List.{List}
 use Prim.Native.Nat.{ℕ, _≤_, _<_}
-use lib.ListN.{length, drop}
+use lib.ListN.{length}
 use Rattle.model.specs.Across.{mostSteps, mostUnfolded}
 use Rattle.records.specs.Records.{conditions}
 use Rattle.played.specs.Played.{Playable}
@@ -29,8 +29,3 @@ pub record Ready (s : List ℕ) (n : ℕ) (offsets r w end l : List ℕ) (p : Pl
   pub steady : Steady s n offsets r w l
   pub few : length end ≤ mostUnfolded
   pub here : InRun (length r) p
-
--- A text is the first bytes of an output, everything past it is as it was, and it is counted.
-pub record Puts (text out : List ℕ) (count : ℕ) (after : List ℕ) : Type 0 where
-  pub told : count ≡ length text
-  pub stored : after ≡ text ++ drop (length text) out

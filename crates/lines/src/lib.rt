@@ -6,12 +6,13 @@ ghost use mathlib.Core.List.{[], _∷_};
 ghost use Prim.Native.Nat.{_≤_, _<_};
 ghost use lib.ListN.{length, getD};
 ghost use Rattle.model.specs.Across.{mostUnfolded};
+ghost use Rattle.spelling.specs.Puts.{Puts};
 ghost use Rattle.table.specs.Decoded.{netOf};
 ghost use Rattle.refusal.specs.Answer.{numberOf, placeOf};
 ghost use Rattle.listing.specs.Text.{newline, refusedLine};
 ghost use Rattle.listing.specs.Calls.{textOf};
 ghost use Rattle.lines.specs.Places.{stepFrom, moreFrom, nextAt, goesOn, fired, shownAt, stepText, textAt, writtenAt};
-ghost use Rattle.lines.specs.Needs.{mostBytes, InRun, Steady, Ready, Puts};
+ghost use Rattle.lines.specs.Needs.{mostBytes, InRun, Steady, Ready};
 
 // Where a listing stands: at the start's line, at the line of a step, at the begin of the unfolded end's line, at more of its list
 // from a condition on, at the newline after it, or past all.

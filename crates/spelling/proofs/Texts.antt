@@ -7,7 +7,7 @@ use mathlib.Core.List.{List, [], _∷_, _++_}
 use lib.ListN.{length, length-append, getD, drop, set}
 use lib.Seq.{sets, length-sets, set-comm, set-out}
 use Rattle.lists.proofs.Stored.{stored-whole, store-next, store-end, store-both}
-use Rattle.spelling.specs.Puts.{Put}
+use Rattle.spelling.specs.Puts.{Put, Puts}
 
 -- A last byte may be stored before those in front of it.
 pub sets-last : (x out : List ℕ) (b at : ℕ) → sets out at (x ++ (b ∷ [])) ≡ sets (set out (at + length x) b) at x
@@ -55,3 +55,7 @@ no-byte text out at k h = store-end out text (at + k) k h
 pub goes-on : {out : List ℕ} {at : ℕ} {x : List ℕ} {r : ℕ} {mid : List ℕ} (y : List ℕ) → Put out at x r mid → (r + length y ≡ at + length (x ++ y)) × (sets mid r y ≡ sets out at (x ++ y))
 goes-on {out} {at} {x} {r} {mid} y p =
     (rw length-append (omega (arith, p .told)), rw (p .stored, p .told, store-both x y out at))
+
+-- A text that is the first bytes of an output is no longer than it.
+pub put-within : {x out : List ℕ} {count : ℕ} {after : List ℕ} → Puts x out count after → count ≤ length after
+put-within {x} {out} p = omega (arith, p .told, ap length (p .stored), length-append x (drop (length x) out))

@@ -1,7 +1,8 @@
 -- What is needed at a place is there at the next, and fewer pieces are left.
 use native.Mathlib.Omega.{arith}
 use mathlib.Core.Path.{_≡_, refl, sym, _∙_}
-use Rattle.lines.proofs.Writing.{put-within, written-ready, written-fewer}
+use Rattle.spelling.proofs.Texts.{put-within}
+use Rattle.lines.proofs.Writing.{written-ready, written-fewer}
 use borrow.Author.Needs.{needs}
 use lib.ListN.{length}
 use Rattle.lines.specs.Places.{leftAt}

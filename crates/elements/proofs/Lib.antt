@@ -1,0 +1,5 @@
+pub mod Elements
+pub mod Links
+pub mod Reading
+pub mod Answers
+pub mod Whole
