@@ -27,6 +27,7 @@ ghost use Rattle.unfolded_lists.specs.Calls.{unfoldedListOf, unfoldedListedOf};
 ghost use Rattle.firing.specs.Calls.{unfoldedFireOf, unfoldedFiredOf};
 ghost use Rattle.lift.specs.Calls.{liftOf, liftedOf};
 ghost use Rattle.project.specs.Calls.{projectOf, projectedOf};
+ghost use Rattle.elements.specs.Calls.{elementCountOf, elementOf, elementWrittenOf};
 ghost use Rattle.ends.specs.Calls.{unfoldedReplayOf, unfoldedReplayedOf, liftEndOf, liftEndedOf};
 ghost use Rattle.outward.specs.Origins.{originAnswer, conditionOr, copyOr, markerOr, userOr};
 ghost use Rattle.outward.specs.Told.{answerOf, valueOr, given};
@@ -387,6 +388,34 @@ pub extern "C" fn dovetrellis_write_lifted(
     ensures many { λ _. ⌜ now (count .exit) ≡ valueOr (writeAnswer (now (lifted .entry)) (length (now (out .entry)))) (now (count .entry)) ⌝ }
 {
     let judged = writing::write_lifted(lifted, out);
+    outward::put_value(judged, count);
+    outward::told(judged)
+}
+
+// How many elements the export of a table has.
+#[no_mangle]
+pub extern "C" fn dovetrellis_element_count(table: &[u8], count: &mut u64) -> Answer
+    ensures answer { λ r. ⌜ r ≡ answerOf (elementCountOf (now (table .entry))) ⌝ }
+    ensures many { λ _. ⌜ now (count .exit) ≡ valueOr (elementCountOf (now (table .entry))) (now (count .entry)) ⌝ }
+{
+    let judged = elements::element_count(table);
+    outward::put_value(judged, count);
+    outward::told(judged)
+}
+
+// An element of the export of a table.
+#[no_mangle]
+pub extern "C" fn dovetrellis_element(
+    table: &[u8],
+    element: u64,
+    out: &mut [u8],
+    count: &mut u64,
+) -> Answer
+    ensures answer { λ r. ⌜ r ≡ answerOf (elementOf (now (table .entry)) element (length (now (out .entry)))) ⌝ }
+    ensures after { λ _. ⌜ now (out .exit) ≡ elementWrittenOf (now (table .entry)) element (now (out .entry)) ⌝ }
+    ensures many { λ _. ⌜ now (count .exit) ≡ valueOr (elementOf (now (table .entry)) element (length (now (out .entry)))) (now (count .entry)) ⌝ }
+{
+    let judged = elements::element(table, element as usize, out);
     outward::put_value(judged, count);
     outward::told(judged)
 }

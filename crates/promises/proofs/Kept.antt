@@ -24,6 +24,7 @@ use Rattle.event_numbers.specs.Answers as unfolded
 use Rattle.events.specs.Answers.{originJudged}
 use Rattle.condition_numbers.specs.Answers.{numbered}
 use Rattle.conditions.specs.Origins.{conditionJudged, originNumber}
+use Rattle.elements.specs.Calls.{elementCountOf, elementOf, elementWrittenOf}
 use Rattle.unfolded_lists.specs.Calls.{unfoldedListOf, unfoldedListedOf}
 use Rattle.starting.specs.Calls.{unfoldedStartOf, unfoldedStartedOf}
 use Rattle.firing.specs.Calls.{unfoldedFireOf, unfoldedFiredOf}
@@ -34,7 +35,7 @@ use Rattle.reader.specs.Read.{nextOf}
 use Rattle.asking.specs.Calls.{preconditionsOf, preconditionsInto, postconditionsOf, postconditionsInto, startOf, startInto}
 use Rattle.listing.specs.Calls.{pieceOf, filesOf}
 use Rattle.promises.specs.Refused.{ofList, ofTableStart, ofFiles, ofPiece, ofNumbering, ofListing, ofStart, ofUnfoldedFiring, ofLift, ofProject, ofTable, ofAsking, ofFiring, ofReplay, ofReplayFrom, ofExchange, ofUnfolding, ofReading, ofWriting, listed, Refusing}
-use Rattle.promises.proofs.Refused.{listed-need, zero-listed, judge-listed, judged-listed, firing-listed, replay-listed, replay-from-listed, exchange-listed, record-listed, preconditions-listed, postconditions-listed, start-listed, files-listed, piece-listed, unfolding-of-listed, listing-listed, unfolded-start-listed, unfolded-fire-listed, lift-listed, lift-end-listed, project-listed, unfolded-replay-listed, read-listed, write-listed}
+use Rattle.promises.proofs.Refused.{listed-need, zero-listed, judge-listed, judged-listed, firing-listed, replay-listed, replay-from-listed, exchange-listed, record-listed, preconditions-listed, postconditions-listed, start-listed, files-listed, piece-listed, unfolding-of-listed, listing-listed, element-listed, unfolded-start-listed, unfolded-fire-listed, lift-listed, lift-end-listed, project-listed, unfolded-replay-listed, read-listed, write-listed}
 use Rattle.promises.proofs.Told.{condition-number, event-answer}
 use Rattle.table.proofs.judge.Reads as judge
 use Rattle.table.proofs.condition_count.Reads as condition-count
@@ -65,6 +66,8 @@ use Rattle.asking.proofs.postconditions.Reads as postconditions
 use Rattle.asking.proofs.start.Reads as table-start
 use Rattle.listing.proofs.read_files.Reads as read-files
 use Rattle.listing.proofs.write.Reads as write-piece
+use Rattle.elements.proofs.element_count.Reads as element-count
+use Rattle.elements.proofs.element.Reads as element
 use Rattle.unfolded_lists.proofs.unfolded_pre.Reads as unfolded-pre
 use Rattle.unfolded_lists.proofs.unfolded_post.Reads as unfolded-post
 use Rattle.starting.proofs.unfolded_start.Reads as unfolded-start
@@ -226,6 +229,15 @@ read-files-refused κs a r x h =
 pub write-piece-refused : (κs : _) (a : _) (r : _) (x : _) → write-piece.Learnt κs a r x → Refusing ofPiece r (now (a .1 .1 .0)) (now (x .1 .1 .0))
 write-piece-refused κs a r x h =
     late-refused ofPiece r (pieceOf (a .0) (now (a .1 .0)) (length (now (a .1 .1 .0)))) _ (now (a .1 .1 .0)) (now (x .1 .1 .0)) (h .0) (piece-listed (a .0) (now (a .1 .0)) (length (now (a .1 .1 .0)))) (h .1)
+
+pub element-count-refused : (κs : _) (a : _) (r : _) (x : _) → element-count.Learnt κs a r x → T (listed ofUnfolding r)
+unfolding elementCountOf
+element-count-refused κs a r x h = rw h (unfolding-of-listed ofUnfolding (now (a .0)) _ tt tt)
+
+pub element-refused : (κs : _) (a : _) (r : _) (x : _) → element.Learnt κs a r x → Refusing ofListing r (now (a .1 .1 .0)) (now (x .1 .1 .0))
+unfolding elementWrittenOf
+element-refused κs a r x h =
+    written-refused ofListing r (elementOf (now (a .0)) (a .1 .0) (length (now (a .1 .1 .0)))) _ (now (a .1 .1 .0)) (now (x .1 .1 .0)) (h .0) (element-listed (now (a .0)) (a .1 .0) (length (now (a .1 .1 .0)))) (h .1)
 
 pub unfolded-pre-refused : (κs : _) (a : _) (r : _) (x : _) → unfolded-pre.Learnt κs a r x → Refusing ofListing r (now (a .1 .1 .0)) (now (x .1 .1 .0))
 unfolding unfoldedListedOf

@@ -35,6 +35,7 @@ use Rattle.conditions.specs.declared.ConditionOrigin.{ConditionOrigin}
 use Rattle.conditions.specs.declared.ConditionOrigin.the-variants as show
 use Rattle.condition_numbers.specs.Answers.{numbered}
 use Rattle.conditions.specs.Origins.{conditionAt, conditionJudged, toldIf, conditionOriginOf, originNumber}
+use Rattle.elements.specs.Calls.{elementCountOf, elementOf, elementWrittenOf}
 use Rattle.unfolded_lists.specs.Calls.{unfoldedListOf, unfoldedListedOf}
 use Rattle.starting.specs.Calls.{unfoldedStartOf, unfoldedStartedOf}
 use Rattle.firing.specs.Calls.{unfoldedFireOf, unfoldedFiredOf}
@@ -46,7 +47,7 @@ use Rattle.outward.specs.Told.{answerOf, valueOr, given}
 use Rattle.outward.specs.Words.{colourFor, markersOf, markersInto, conditionFor}
 use Rattle.outward.specs.Origins.{originAnswer, conditionOr, copyOr, markerOr, userOr}
 use Rattle.promises.specs.Refused.{ofTable, ofList, ofTableStart, ofFiring, ofReplay, ofExchange, ofUnfolding, ofNumbering, ofListing, ofStart, ofUnfoldedFiring, ofLift, ofProject, ofReading, ofWriting, listed, Refusing, Telling}
-use Rattle.promises.proofs.Refused.{listed-need, listed-then, listed-cond, listed-fitting, zero-listed, judge-listed, judged-listed, firing-listed, replay-listed, exchange-listed, preconditions-listed, postconditions-listed, start-listed, unfolding-of-listed, listing-listed, unfolded-start-listed, unfolded-fire-listed, lift-listed, lift-end-listed, project-listed, unfolded-replay-listed, read-listed, write-listed}
+use Rattle.promises.proofs.Refused.{listed-need, listed-then, listed-cond, listed-fitting, zero-listed, judge-listed, judged-listed, firing-listed, replay-listed, exchange-listed, preconditions-listed, postconditions-listed, start-listed, unfolding-of-listed, listing-listed, element-listed, unfolded-start-listed, unfolded-fire-listed, lift-listed, lift-end-listed, project-listed, unfolded-replay-listed, read-listed, write-listed}
 use Rattle.promises.proofs.Told.{event-answer}
 use Rattle.promises.proofs.Kept.{written-refused}
 use Rattle.outward.proofs.put_markers.Reads as put-markers
@@ -66,6 +67,8 @@ use Rattle.ffi.proofs.dovetrellis_event_origin.Reads as dovetrellis-event-origi
 use Rattle.ffi.proofs.dovetrellis_event_number.Reads as dovetrellis-event-number
 use Rattle.ffi.proofs.dovetrellis_condition_origin.Reads as dovetrellis-condition-origin
 use Rattle.ffi.proofs.dovetrellis_condition_number.Reads as dovetrellis-condition-number
+use Rattle.ffi.proofs.dovetrellis_element_count.Reads as dovetrellis-element-count
+use Rattle.ffi.proofs.dovetrellis_element.Reads as dovetrellis-element
 use Rattle.ffi.proofs.dovetrellis_unfolded_pre.Reads as dovetrellis-unfolded-pre
 use Rattle.ffi.proofs.dovetrellis_unfolded_post.Reads as dovetrellis-unfolded-post
 use Rattle.ffi.proofs.dovetrellis_unfolded_start.Reads as dovetrellis-unfolded-start
@@ -315,3 +318,13 @@ pub dovetrellis-write-lifted-refused : (κs : _) (a : _) (r : _) (x : _) → dov
 unfolding recordInto
 dovetrellis-write-lifted-refused κs a r x h =
     told-refused ofWriting (writeAnswer (now (a .0)) (length (now (a .1 .0)))) r (h .0) (write-listed (now (a .0)) (length (now (a .1 .0)))) (λ y g. (written-kept _ _ (now (a .1 .0)) (now (x .1 .0)) (h .1 .0) g, value-kept _ (now (a .1 .1 .0)) (now (x .1 .1 .0)) (h .1 .1) g))
+
+pub dovetrellis-element-count-refused : (κs : _) (a : _) (r : _) (x : _) → dovetrellis-element-count.Learnt κs a r x → Telling ofUnfolding r (now (x .1 .0) ≡ now (a .1 .0))
+unfolding elementCountOf
+dovetrellis-element-count-refused κs a r x h =
+    told-refused ofUnfolding (elementCountOf (now (a .0))) r (h .0) (unfolding-of-listed ofUnfolding (now (a .0)) _ tt tt) (λ y g. value-kept _ (now (a .1 .0)) (now (x .1 .0)) (h .1) g)
+
+pub dovetrellis-element-refused : (κs : _) (a : _) (r : _) (x : _) → dovetrellis-element.Learnt κs a r x → Telling ofListing r ((now (x .1 .1 .0) ≡ now (a .1 .1 .0)) × (now (x .1 .1 .1 .0) ≡ now (a .1 .1 .1 .0)))
+unfolding elementWrittenOf
+dovetrellis-element-refused κs a r x h =
+    told-refused ofListing (elementOf (now (a .0)) (a .1 .0) (length (now (a .1 .1 .0)))) r (h .0) (element-listed (now (a .0)) (a .1 .0) (length (now (a .1 .1 .0)))) (λ y g. (written-kept _ _ (now (a .1 .1 .0)) (now (x .1 .1 .0)) (h .1 .0) g, value-kept _ (now (a .1 .1 .1 .0)) (now (x .1 .1 .1 .0)) (h .1 .1) g))

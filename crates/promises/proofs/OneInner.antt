@@ -20,6 +20,7 @@ use Rattle.layout.proofs.Counts.{sum-part}
 use Rattle.unfolding.specs.declared.Found.{Found}
 use Rattle.unfolding.specs.declared.Found.the-variants.{At, Past}
 use Rattle.unfolding.specs.Numbers.{Owner, Belongs}
+use Rattle.pnml.specs.Text.{textOf}
 use Rattle.promises.proofs.One.{same-part}
 use Rattle.words.proofs.byte.Reads as byte
 use Rattle.words.proofs.word.Reads as word
@@ -63,6 +64,15 @@ use Rattle.unfolding.proofs.colours_before.Reads as colours-before
 use Rattle.copies.proofs.write_copies.Reads as write-copies
 use Rattle.decided.proofs.decide.Reads as decide
 use Rattle.segments.proofs.own.Reads as own
+use Rattle.segments.proofs.choose.Reads as choose
+use Rattle.segments.proofs.alone.Reads as alone
+use Rattle.segments.proofs.joined.Reads as joined
+use Rattle.segments.proofs.size_if.Reads as size-if
+use Rattle.segments.proofs.total.Reads as total
+use Rattle.arcs.proofs.next_owner.Reads as next-owner
+use Rattle.pnml.proofs.write.Reads as write-element
+use Rattle.export_places.proofs.goes_on.Reads as export-goes-on
+use Rattle.export_places.proofs.element_at.Reads as element-at
 use Rattle.walking.proofs.test.Reads as ranges-test
 use Rattle.walking.proofs.set_ranges.Reads as set-ranges
 use Rattle.spelling.proofs.put.Reads as put-byte
@@ -243,11 +253,42 @@ decide-one κs a r q x y h g = h ∙ sym g
 pub own-one : (κs : _) (a : _) (r q : _) (x y : _) → own.Learnt κs a r x → own.Learnt κs a q y → r ≡ q
 own-one κs a r q x y h g = h ∙ sym g
 
+pub choose-one : (κs : _) (a : _) (r q : _) (x y : _) → choose.Learnt κs a r x → choose.Learnt κs a q y → now (x .1 .1 .1 .1 .1 .0) ≡ now (y .1 .1 .1 .1 .1 .0)
+choose-one κs a r q x y h g = h ∙ sym g
+
+pub alone-one : (κs : _) (a : _) (r q : _) (x y : _) → alone.Learnt κs a r x → alone.Learnt κs a q y → r ≡ q
+alone-one κs a r q x y h g = h ∙ sym g
+
+pub joined-one : (κs : _) (a : _) (r q : _) (x y : _) → joined.Learnt κs a r x → joined.Learnt κs a q y → r ≡ q
+joined-one κs a r q x y h g = h ∙ sym g
+
+pub size-if-one : (κs : _) (a : _) (r q : _) (x y : _) → size-if.Learnt κs a r x → size-if.Learnt κs a q y → r ≡ q
+size-if-one κs a r q x y h g = h ∙ sym g
+
+pub total-one : (κs : _) (a : _) (r q : _) (x y : _) → total.Learnt κs a r x → total.Learnt κs a q y → r ≡ q
+total-one κs a r q x y h g = h ∙ sym g
+
 pub ranges-test-one : (κs : _) (a : _) (r q : _) (x y : _) → ranges-test.Learnt κs a r x → ranges-test.Learnt κs a q y → r ≡ q
 ranges-test-one κs a r q x y h g = h ∙ sym g
 
 pub set-ranges-one : (κs : _) (a : _) (r q : _) (x y : _) → set-ranges.Learnt κs a r x → set-ranges.Learnt κs a q y → now (x .1 .1 .1 .1 .0) ≡ now (y .1 .1 .1 .1 .0)
 set-ranges-one κs a r q x y h g = h ∙ sym g
+
+-- ---- the export
+
+pub next-owner-one : (κs : _) (a : _) (r q : _) (x y : _) → next-owner.Learnt κs a r x → next-owner.Learnt κs a q y → r ≡ q
+next-owner-one κs a r q x y h g = same-owner (now (a .0)) _ r q h g
+
+pub write-element-one : (κs : _) (a : _) (r q : _) (x y : _) → write-element.Learnt κs a r x → write-element.Learnt κs a q y → (r ≡ q) × (now (x .1 .1 .0) ≡ now (y .1 .1 .0))
+write-element-one κs a r q x y h g =
+    let e : r ≡ q = h .0 ∙ sym (g .0) in
+    (e, h .1 ∙ ap (λ (z : Judged). written z (textOf (a .0) (a .1 .0)) (now (a .1 .1 .0))) e ∙ sym (g .1))
+
+pub export-goes-on-one : (κs : _) (a : _) (r q : _) (x y : _) → export-goes-on.Learnt κs a r x → export-goes-on.Learnt κs a q y → r ≡ q
+export-goes-on-one κs a r q x y h g = h ∙ sym g
+
+pub element-at-one : (κs : _) (a : _) (r q : _) (x y : _) → element-at.Learnt κs a r x → element-at.Learnt κs a q y → r ≡ q
+element-at-one κs a r q x y h g = h ∙ sym g
 
 -- ---- bytes, numbers and texts put at a place
 

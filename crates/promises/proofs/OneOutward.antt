@@ -30,6 +30,8 @@ use Rattle.ffi.proofs.dovetrellis_event_origin.Reads as dovetrellis-event-origi
 use Rattle.ffi.proofs.dovetrellis_event_number.Reads as dovetrellis-event-number
 use Rattle.ffi.proofs.dovetrellis_condition_origin.Reads as dovetrellis-condition-origin
 use Rattle.ffi.proofs.dovetrellis_condition_number.Reads as dovetrellis-condition-number
+use Rattle.ffi.proofs.dovetrellis_element_count.Reads as dovetrellis-element-count
+use Rattle.ffi.proofs.dovetrellis_element.Reads as dovetrellis-element
 use Rattle.ffi.proofs.dovetrellis_unfolded_pre.Reads as dovetrellis-unfolded-pre
 use Rattle.ffi.proofs.dovetrellis_unfolded_post.Reads as dovetrellis-unfolded-post
 use Rattle.ffi.proofs.dovetrellis_unfolded_start.Reads as dovetrellis-unfolded-start
@@ -166,3 +168,9 @@ dovetrellis-write-run-one κs a r q x y h g = (h .0 ∙ sym (g .0), h .1 .0 ∙ 
 
 pub dovetrellis-write-lifted-one : (κs : _) (a : _) (r q : _) (x y : _) → dovetrellis-write-lifted.Learnt κs a r x → dovetrellis-write-lifted.Learnt κs a q y → (r ≡ q) × (now (x .1 .0) ≡ now (y .1 .0)) × (now (x .1 .1 .0) ≡ now (y .1 .1 .0))
 dovetrellis-write-lifted-one κs a r q x y h g = (h .0 ∙ sym (g .0), h .1 .0 ∙ sym (g .1 .0), h .1 .1 ∙ sym (g .1 .1))
+
+pub dovetrellis-element-count-one : (κs : _) (a : _) (r q : _) (x y : _) → dovetrellis-element-count.Learnt κs a r x → dovetrellis-element-count.Learnt κs a q y → (r ≡ q) × (now (x .1 .0) ≡ now (y .1 .0))
+dovetrellis-element-count-one κs a r q x y h g = (h .0 ∙ sym (g .0), h .1 ∙ sym (g .1))
+
+pub dovetrellis-element-one : (κs : _) (a : _) (r q : _) (x y : _) → dovetrellis-element.Learnt κs a r x → dovetrellis-element.Learnt κs a q y → (r ≡ q) × (now (x .1 .1 .0) ≡ now (y .1 .1 .0)) × (now (x .1 .1 .1 .0) ≡ now (y .1 .1 .1 .0))
+dovetrellis-element-one κs a r q x y h g = (h .0 ∙ sym (g .0), h .1 .0 ∙ sym (g .1 .0), h .1 .1 ∙ sym (g .1 .1))

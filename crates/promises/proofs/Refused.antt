@@ -46,6 +46,7 @@ use Rattle.reader.specs.Read.{recordOf}
 use Rattle.asking.specs.Calls.{preconditionsOf, postconditionsOf, startOf}
 use Rattle.listing.specs.declared.Piece.{Piece}
 use Rattle.listing.specs.Calls.{mostNetBytes, mostRunBytes, textOf, pieceOf, filesOf}
+use Rattle.elements.specs.Calls.{elementOf}
 use Rattle.unfolded_lists.specs.Calls.{unfoldedListOf}
 use Rattle.starting.specs.Calls.{unfoldedStartOf}
 use Rattle.firing.specs.Calls.{unfoldedFireOf}
@@ -306,6 +307,10 @@ unfolding-of-listed l s own h t =
 pub listing-listed : (s : List ℕ) (post : Bool) (j room : ℕ) → T (listed ofListing (unfoldedListOf s post j room))
 unfolding unfoldedListOf
 listing-listed s post j room = unfolding-of-listed ofListing s _ tt (listed-need ofListing _ 10 0 _ tt (listed-fitting ofListing _ room tt))
+
+pub element-listed : (s : List ℕ) (i room : ℕ) → T (listed ofListing (elementOf s i room))
+unfolding elementOf
+element-listed s i room = unfolding-of-listed ofListing s _ tt (listed-need ofListing _ 10 0 _ tt (listed-fitting ofListing _ room tt))
 
 pub unfolded-start-listed : (s : List ℕ) (room : ℕ) → T (listed ofStart (unfoldedStartOf s room))
 unfolding unfoldedStartOf
