@@ -5,13 +5,6 @@ use refusal::Judged;
 ghost use Rattle.lines.specs.Needs.{Ready};
 ghost use Rattle.lines.specs.declared.Place.the-variants.{Start};
 
-// The line of a refusal written out.
-fn refuse(answer: Judged) {
-    let mut text = [0u8; 2048];
-    let count = lines::write_refused(answer, &mut text);
-    io::write_all(STDOUT_FILENO, &text[0..count]);
-}
-
 // The listing of what was opened, written out from the start on.
 fn show<'a>(
     table: &'a [u8],
@@ -62,7 +55,7 @@ fn list<'a>(net: &'a [u8], run: &'a [u8]) {
     );
     let answer = opened.answer;
     let Judged::Fine(count) = answer else {
-        refuse(answer);
+        files::refuse(answer);
         return;
     };
     let unfolded = opened.unfolded;

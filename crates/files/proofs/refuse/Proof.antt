@@ -1,8 +1,8 @@
 -- A line that was written is part of its bytes.
-use Rattle.lines.proofs.Writing.{put-within}
+use Rattle.spelling.proofs.Texts.{put-within}
 use borrow.Author.Needs.{needs}
-use Rattle.list.proofs.refuse.Statement.{statement}
-use Rattle.list.proofs.refuse.Tie as tie
+use Rattle.files.proofs.refuse.Statement.{statement}
+use Rattle.files.proofs.refuse.Tie as tie
 
 part-write-all-end : tie.Need-part-write-all-end
 part-write-all-end c =
