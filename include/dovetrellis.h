@@ -235,8 +235,8 @@ struct dovetrellis_answer dovetrellis_write_lifted(const uint16_t *lifted, size_
 struct dovetrellis_answer dovetrellis_element_count(const uint8_t *table, size_t table_length, uint64_t *count);
 
 /*
- * The text of an element: its bytes, with no zero byte after them, and their count.
- * Refusals: the table's, 13, 14, 10, 16 (counts bytes).
+ * The text of an element: its bytes, with no zero byte after them, and their count. An arc is found by walking the transitions before
+ * it; the program `export` writes a whole file without that. Refusals: the table's, 13, 14, 10, 16 (counts bytes).
  */
 struct dovetrellis_answer dovetrellis_element(const uint8_t *table, size_t table_length, uint64_t element, uint8_t *out,
                                               size_t out_length, uint64_t *count);
