@@ -11,7 +11,9 @@ use std::process::{Command, Output, Stdio};
 use command::lister::{listing_in, Folder};
 use command::tools::export_program;
 use second::export::Doubled;
-use second::generator::{damaged, endless_net, event_limit_net, middle_net, small_net, Random};
+use second::generator::{
+    cases_given, damaged, endless_net, event_limit_net, middle_net, small_net, Random,
+};
 use second::plain::reached_unfolded;
 use second::table::{read_table, table_bytes, Event, Net};
 use second::unfolding::unfold;
@@ -119,12 +121,9 @@ fn as_many_events_as_may_be_are_exported() {
 
 #[test]
 fn generated_files_and_every_refusal() {
-    let given = std::env::var("CASES")
-        .ok()
-        .and_then(|cases| cases.parse().ok());
     let mut random = Random::given();
     let mut seen = BTreeSet::new();
-    for case in 0..given.unwrap_or(400) {
+    for case in 0..cases_given(400) {
         let table = match case % 4 {
             0 => table_bytes(&middle_net(&mut random)),
             1 => table_bytes(&small_net(&mut random)),

@@ -8,8 +8,8 @@ use std::os::unix::fs::symlink;
 use command::lister::{listing_in, Folder};
 use command::tools::list_program;
 use second::generator::{
-    any_net, any_walk, condition_limit_net, damaged, endless_net, event_limit_net, limit_net,
-    small_net, walk, Random,
+    any_net, any_walk, cases_given, condition_limit_net, damaged, endless_net, event_limit_net,
+    limit_net, small_net, walk, Random,
 };
 use second::listing::{listing, MOST_NET_BYTES, MOST_RUN_BYTES};
 use second::records::{record_bytes, word_bytes, CONDITIONS, LIFTED, RUN};
@@ -253,12 +253,9 @@ fn any_run(random: &mut Random, net: &Net) -> Vec<u8> {
 
 #[test]
 fn generated_files_and_every_refusal() {
-    let given = std::env::var("CASES")
-        .ok()
-        .and_then(|cases| cases.parse().ok());
     let mut random = Random::given();
     let mut seen = BTreeSet::new();
-    for case in 0..given.unwrap_or(400) {
+    for case in 0..cases_given(400) {
         let (bytes, run) = match case % 20 {
             0..=9 => {
                 let net = if case % 20 == 0 {

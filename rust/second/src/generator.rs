@@ -6,6 +6,16 @@ use crate::refusal::Refusal;
 use crate::table::{event_bytes, table_records, Event, Net, MOST_EVENTS, MOST_PERSISTENT};
 use crate::unfolding::{counts, unfold, Unfolding};
 
+/// The number that the environment gives under a name, if it gives one.
+fn given(name: &str) -> Option<u64> {
+    std::env::var(name).ok()?.parse().ok()
+}
+
+/// How many cases a test tries: as many as the environment gives as CASES, else a number of its own.
+pub fn cases_given(otherwise: u64) -> u64 {
+    given("CASES").unwrap_or(otherwise)
+}
+
 /// A small generator of random numbers (SplitMix64); equal seeds give equal numbers.
 pub struct Random {
     state: u64,
@@ -20,10 +30,7 @@ impl Random {
     /// The generator of a test's cases: from the seed that the environment gives as SEED, else from a fixed one, which is printed so
     /// that a failing test can be run again.
     pub fn given() -> Random {
-        let given = std::env::var("SEED")
-            .ok()
-            .and_then(|seed| seed.parse().ok());
-        let seed = given.unwrap_or(2026);
+        let seed = given("SEED").unwrap_or(2026);
         println!("SEED={seed}");
         Random::new(seed)
     }
