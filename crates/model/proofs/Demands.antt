@@ -11,7 +11,7 @@ use Rattle.model.specs.Net.{Net, Sound, Marking, begin, Stop}
 use Rattle.model.specs.Runs.{runs, end, opening, after, ends}
 use Rattle.model.specs.Unfolding.{UnfoldedCondition, unfoldedConditions, basic}
 use Rattle.model.specs.Exchange.{apartStep, exchanged}
-use Rattle.model.specs.Across.{stopped, other, run, refusal, unless, mostSteps, tooLong, unfoldingRefused, Lifting, earliest, lifted, repeated, lifting, lift, readBack, projecting, project, exchanging, exchange}
+use Rattle.model.specs.Across.{ofTable, ofUnfolding, stopped, other, run, refusal, unless, mostSteps, tooLong, unfoldingRefused, Lifting, earliest, lifted, repeated, lifting, lift, readBack, projecting, project, exchanging, exchange}
 use Rattle.model.specs.Demands.{Stops, Correspond, Lifts, Projects, Again, FirstAgain, holdsAfter, Exchanged}
 use Rattle.model.proofs.Laws.{Lawful, Plain}
 use Rattle.model.proofs.Copies.{reached-opening, copies-opening, correspond, determined, marking-after, status-after}
@@ -99,7 +99,7 @@ module _ (n : Net) (r : List ℕ) (short : tooLong r ≡ none) (unfolds : unfold
   )
 
   -- Lift refuses with 10, 11 or 12 exactly where a step stops.
-  pub lift-stopped : (v : Stop) (i : ℕ) → (lift n r ≡ refusal (stopped v i)) ↔ Stops n 0 (opening n) r v i
+  pub lift-stopped : (v : Stop) (i : ℕ) → (lift n r ≡ refusal (stopped ofTable v i)) ↔ Stops n 0 (opening n) r v i
   lift-stopped v i = (
     λ h. lifting-stopped n (earliest n) 0 (opening n) r v i .0 (sym lift-is ∙ h),
     λ p. lift-is ∙ lifting-stopped n (earliest n) 0 (opening n) r v i .1 p,
@@ -117,7 +117,7 @@ module _ (n : Net) (w : List ℕ) (short : tooLong w ≡ none) (unfolds : unfold
   project-exactly = (λ h. projecting-run n w (h .0) (sym project-is ∙ h .1) .0, λ t. (readBack n w, project-is ∙ run-projecting n w t))
 
   -- Project refuses with 10, 11 or 12 exactly where a step stops in the unfolded net.
-  pub project-stopped : (v : Stop) (i : ℕ) → (project n w ≡ refusal (stopped v i)) ↔ Stops (basic n) 0 (opening (basic n)) w v i
+  pub project-stopped : (v : Stop) (i : ℕ) → (project n w ≡ refusal (stopped ofUnfolding v i)) ↔ Stops (basic n) 0 (opening (basic n)) w v i
   project-stopped v i = (λ h. projecting-stopped n w v i .0 (sym project-is ∙ h), λ p. project-is ∙ projecting-stopped n w v i .1 p)
 
 -- What project answers is a run of the table, read back from a run of the unfolded net, and the ends correspond.
@@ -182,7 +182,7 @@ module _ (n : Net) (r : List ℕ) (k : ℕ) (short : tooLong r ≡ none) where
   exchange-not-apart = (λ h. exchanging-not-apart n r k .0 (sym exchange-is ∙ h), λ h. exchange-is ∙ exchanging-not-apart n r k .1 h)
 
   -- and with 10, 11 or 12 at a step exactly where that step stops.
-  pub exchange-stopped : (v : Stop) (i : ℕ) → (exchange n r k ≡ refusal (stopped v i)) ↔ Stops n 0 (opening n) r v i
+  pub exchange-stopped : (v : Stop) (i : ℕ) → (exchange n r k ≡ refusal (stopped ofTable v i)) ↔ Stops n 0 (opening n) r v i
   exchange-stopped v i = (λ h. exchanging-stopped n r k v i .0 (sym exchange-is ∙ h), λ p. exchange-is ∙ exchanging-stopped n r k v i .1 p)
 
 -- One run lifts exactly if the other does, and the lifts differ by the same exchange alone.

@@ -6,7 +6,7 @@ use Prim.Native.Nat.{ℕ, suc}
 use lib.Dec.{ltb, leb}
 use lib.ListN.{length}
 use Rattle.lists.specs.Lists.{any, failing, count}
-use Rattle.model.specs.Net.{Net, begin, Stop, stopNumber}
+use Rattle.model.specs.Net.{Net, begin, Stop, stopNumber, stopCondition}
 use Rattle.model.specs.Runs.{Marker, atStart, State, opening, step, Played, ends, refused, replay}
 use Rattle.model.specs.Unfolding.{UnfoldedEvent, reads, origin, basic, idle}
 use Rattle.model.specs.Numbering.{number, conditionCount, eventCount}
@@ -14,20 +14,31 @@ use Rattle.model.specs.Exchange.{apartStep, exchanged}
 
 -- ---- refusals and answers
 
--- A refusal is a stopped step with its step, or a number with its place (01, Refusal numbers).
+-- Conditions are numbered in the table, or in the unfolding (01, Unfolding; 02, No. 2).
+pub data Whose : Type 0 where
+  ofTable : Whose
+  ofUnfolding : Whose
+
+-- A refusal is a stopped step, whose conditions are numbered here or there, with its place, or a number with its place (01,
+-- Refusal numbers).
 pub data Refusal : Type 0 where
-  stopped : Stop → ℕ → Refusal
+  stopped : Whose → Stop → ℕ → Refusal
   other : ℕ → ℕ → Refusal
 
 -- The number of a refusal (01, Refusal numbers).
 abbrev pub numberOf : Refusal → ℕ
-numberOf (stopped v k) = stopNumber v
+numberOf (stopped w v k) = stopNumber v
 numberOf (other x k) = x
 
 -- The place of a refusal, which in a run is the step (01, Refusal numbers).
 abbrev pub placeOf : Refusal → ℕ
-placeOf (stopped v k) = k
+placeOf (stopped w v k) = k
 placeOf (other x k) = k
+
+-- The condition that stopped a step, if one did (02, No. 2).
+abbrev pub byOf : Refusal → Option ℕ
+byOf (stopped w v k) = stopCondition v
+byOf (other x k) = none
 
 -- Lift, project and exchange answer with a run or with a refusal (01, Runs across).
 pub data Answer : Type 0 where
@@ -40,9 +51,9 @@ unless none a = a
 unless (some x) a = refusal x
 
 -- A replay that is refused, as a refusal (01, Refusal numbers).
-abbrev pub stuck : Played → Option Refusal
-stuck (ends s) = none
-stuck (refused v k) = some (stopped v k)
+abbrev pub stuck : Whose → Played → Option Refusal
+stuck w (ends s) = none
+stuck w (refused v k) = some (stopped w v k)
 
 -- ---- limits
 
@@ -129,7 +140,7 @@ again (some k) = some (other 15 k)
 -- Refusal numbers).
 unfoldable pub lifting : Net → Lifting → ℕ → State → List ℕ → Answer
 unfolding replay repeated lifted
-lifting n l k s r = unless (stuck (replay n k s r)) (unless (again (repeated n l k s r)) (run (lifted n l s r)))
+lifting n l k s r = unless (stuck ofTable (replay n k s r)) (unless (again (repeated n l k s r)) (run (lifted n l s r)))
 
 -- The lift of a run of a table: 3, then 13 and 14, then its steps and 15 (01, Runs across and Refusal numbers).
 unfoldable pub lift : Net → List ℕ → Answer
@@ -146,7 +157,7 @@ readBack n w = map (λ j. origin n j .event) w
 -- An unfolded run is replayed in the unfolded net and then read back (01, Runs across).
 unfoldable pub projecting : Net → List ℕ → Answer
 unfolding replay opening basic readBack
-projecting n w = unless (stuck (replay (basic n) 0 (opening (basic n)) w)) (run (readBack n w))
+projecting n w = unless (stuck ofUnfolding (replay (basic n) 0 (opening (basic n)) w)) (run (readBack n w))
 
 -- The projection of a run of the unfolding: 3, then 13 and 14, then its steps (01, Runs across and Refusal numbers).
 unfoldable pub project : Net → List ℕ → Answer
@@ -167,7 +178,7 @@ notApart n r k = cond (apartStep n (begin n) r k) none (some (other 17 k))
 -- The exchange of steps k and k + 1: the run is replayed first, then 10 and 17 (01, Runs across and Refusal numbers).
 unfoldable pub exchanging : Net → List ℕ → ℕ → Answer
 unfolding replay opening noStep notApart
-exchanging n r k = unless (stuck (replay n 0 (opening n) r)) (unless (noStep r k) (unless (notApart n r k) (run (exchanged k r))))
+exchanging n r k = unless (stuck ofTable (replay n 0 (opening n) r)) (unless (noStep r k) (unless (notApart n r k) (run (exchanged k r))))
 
 -- The exchange in a run of a table, which does not concern the unfolding: 3, then the above (01, Refusal numbers).
 unfoldable pub exchange : Net → List ℕ → ℕ → Answer

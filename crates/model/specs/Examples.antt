@@ -6,11 +6,11 @@ use Prim.Native.Nat.{ℕ, _+_, _-_}
 use lib.Dec.{eqb, ltb}
 use lib.ListN.{length, getD, replicate}
 use Rattle.lists.specs.Lists.{mem, all, same, count}
-use Rattle.model.specs.Net.{Net, Marking, begin, fire, Stop, stopNumber, stopping}
+use Rattle.model.specs.Net.{Net, Marking, begin, fire, Stop, stopNumber, stopCondition, stopPlace, stopping}
 use Rattle.model.specs.Runs.{Marker, atStart, byEvent, opening, after, Played, ends, refused, replay}
 use Rattle.model.specs.Unfolding.{origin, basic}
 use Rattle.model.specs.Numbering.{number}
-use Rattle.model.specs.Across.{Refusal, numberOf, placeOf, Answer, run, refusal, unfoldingRefused, lift, project, exchange}
+use Rattle.model.specs.Across.{Refusal, numberOf, placeOf, byOf, Answer, run, refusal, unfoldingRefused, lift, project, exchange}
 
 -- ---- nets, written as the requirements write them
 
@@ -82,6 +82,11 @@ unfoldable pub netR : Net
 unfolding net one two three
 netR = net (three 0 0 1) ((one 0 ↝ one 2) ∷ (two 1 2 ↝ []) ∷ []) (two 0 1)
 
+-- Net S, where two preconditions, or a persistent and two ordinary postconditions, may stop an event at once.
+unfoldable pub netS : Net
+unfolding net one two three four
+netS = net (four 1 0 0 0) ((two 1 2 ↝ []) ∷ ([] ↝ three 0 2 3) ∷ []) []
+
 -- The net at the limit of unfolded events, with further conditions and rows that are given: the conditions are numbered from
 -- 15 on, the events from 27 on (01, Nets to test with: limits).
 unfoldable pub netL : List ℕ → List Row → Net
@@ -114,10 +119,17 @@ unfolding sameList
 isRun (run w) l = sameList w l
 isRun (refusal x) l = false
 
--- An answer is the refusal with this number and place.
-unfoldable pub isRefusal : Answer → ℕ → ℕ → Bool
-isRefusal (run w) x k = false
-isRefusal (refusal y) x k = eqb (numberOf y) x && eqb (placeOf y) k
+-- Two conditions that stopped a step are the same, or there is none either time.
+abbrev pub sameBy : Option ℕ → Option ℕ → Bool
+sameBy none none = true
+sameBy none (some d) = false
+sameBy (some b) none = false
+sameBy (some b) (some d) = eqb b d
+
+-- An answer is the refusal with this number, place and condition.
+unfoldable pub isRefusal : Answer → ℕ → ℕ → Option ℕ → Bool
+isRefusal (run w) x k b = false
+isRefusal (refusal y) x k b = eqb (numberOf y) x && (eqb (placeOf y) k && sameBy (byOf y) b)
 
 -- A replay ends in the conditions of the list.
 unfoldable pub isEnd : Net → Played → List ℕ → Bool
@@ -125,15 +137,15 @@ unfolding sameMarking
 isEnd n (ends s) l = sameMarking (n .conditions) (s .marking) l
 isEnd n (refused v k) l = false
 
--- A replay is refused with this number at this step.
-unfoldable pub isStop : Played → ℕ → ℕ → Bool
-isStop (ends s) x k = false
-isStop (refused v i) x k = eqb (stopNumber v) x && eqb i k
+-- A replay is refused with this number at this step, by this condition.
+unfoldable pub isStop : Played → ℕ → ℕ → Option ℕ → Bool
+isStop (ends s) x k b = false
+isStop (refused v i) x k b = eqb (stopNumber v) x && (eqb i k && sameBy (stopCondition v) b)
 
--- A firing is refused with this number, which is 0 where there is concession.
-unfoldable pub firingIs : Option Stop → ℕ → Bool
-firingIs none x = eqb 0 x
-firingIs (some v) x = eqb (stopNumber v) x
+-- A firing is refused with this number and place, which are 0 where there is concession.
+unfoldable pub firingIs : Option Stop → ℕ → ℕ → Bool
+firingIs none x k = eqb 0 x && eqb 0 k
+firingIs (some v) x k = eqb (stopNumber v) x && eqb (stopPlace v) k
 
 -- An unfolding is refused with this number and place.
 unfoldable pub refusedIs : Option Refusal → ℕ → ℕ → Bool
@@ -150,16 +162,16 @@ pub data Line : Type 0 where
   numbered : Net → ℕ → List Marker → ℕ → Line  -- an event and its markers, and their number
   unfolded : Net → Line  -- the table unfolds
   notUnfolded : Net → ℕ → ℕ → Line  -- the table does not unfold: refusal and place
-  stops : Net → List ℕ → ℕ → ℕ → Line  -- marking, event, refusal (0: concession)
+  stops : Net → List ℕ → ℕ → ℕ → ℕ → Line  -- marking, event, refusal and place (0: concession)
   fires : Net → List ℕ → ℕ → List ℕ → Line  -- marking, event, marking after
   plays : Net → List ℕ → List ℕ → Line  -- run, end
-  notPlayed : Net → List ℕ → ℕ → ℕ → Line  -- list, refusal, step
+  notPlayed : Net → List ℕ → ℕ → ℕ → Option ℕ → Line  -- list, refusal, step, condition
   lifts : Net → List ℕ → List ℕ → List ℕ → Line  -- run, lifted run, its end in the unfolded net
-  notLifted : Net → List ℕ → ℕ → ℕ → Line  -- run, refusal, place
+  notLifted : Net → List ℕ → ℕ → ℕ → Option ℕ → Line  -- run, refusal, place, condition
   projects : Net → List ℕ → List ℕ → Line  -- unfolded run, run
-  notProjected : Net → List ℕ → ℕ → ℕ → Line  -- unfolded list, refusal, place
+  notProjected : Net → List ℕ → ℕ → ℕ → Option ℕ → Line  -- unfolded list, refusal, place, unfolded condition
   exchanges : Net → List ℕ → ℕ → List ℕ → Line  -- run, step, run with the two steps exchanged
-  notExchanged : Net → List ℕ → ℕ → ℕ → ℕ → Line  -- run, step, refusal, place
+  notExchanged : Net → List ℕ → ℕ → ℕ → ℕ → Option ℕ → Line  -- run, step, refusal, place, condition
 
 -- The answer that the definitions give is the line's.
 unfoldable pub passes : Line → Bool
@@ -170,16 +182,16 @@ passes (behind n j e) = ltb j (basic n .events) && eqb (origin n j .event) e
 passes (numbered n e c j) = eqb (number n (record { event = e; colour = c })) j
 passes (unfolded n) = elim (unfoldingRefused n) [ none ↦ true | some x ↦ false ]
 passes (notUnfolded n x k) = refusedIs (unfoldingRefused n) x k
-passes (stops n m e x) = firingIs (stopping n (λ b. mem b m) e) x
-passes (fires n m e l) = firingIs (stopping n (λ b. mem b m) e) 0 && sameMarking (n .conditions) (fire n (λ b. mem b m) e) l
+passes (stops n m e x k) = firingIs (stopping n (λ b. mem b m) e) x k
+passes (fires n m e l) = firingIs (stopping n (λ b. mem b m) e) 0 0 && sameMarking (n .conditions) (fire n (λ b. mem b m) e) l
 passes (plays n r l) = isEnd n (replay n 0 (opening n) r) l
-passes (notPlayed n r x k) = isStop (replay n 0 (opening n) r) x k
+passes (notPlayed n r x k b) = isStop (replay n 0 (opening n) r) x k b
 passes (lifts n r w l) = isRun (lift n r) w && isEnd (basic n) (replay (basic n) 0 (opening (basic n)) w) l
-passes (notLifted n r x k) = isRefusal (lift n r) x k
+passes (notLifted n r x k b) = isRefusal (lift n r) x k b
 passes (projects n w r) = isRun (project n w) r
-passes (notProjected n w x k) = isRefusal (project n w) x k
+passes (notProjected n w x k b) = isRefusal (project n w) x k b
 passes (exchanges n r k q) = isRun (exchange n r k) q
-passes (notExchanged n r k x i) = isRefusal (exchange n r k) x i
+passes (notExchanged n r k x i b) = isRefusal (exchange n r k) x i b
 
 -- Every line of a table passes.
 unfoldable pub passAll : List Line → Bool
@@ -200,19 +212,19 @@ table =
     ∷ lists (netA (one 0)) 3 (one 4) (one 1)
     ∷ plays (netA (one 0)) (four 0 1 2 1) (two 2 3)
     ∷ lifts (netA (one 0)) (four 0 1 2 1) (four 0 2 3 2) (two 3 4)
-    ∷ stops (netA (two 0 2)) (two 0 2) 0 0
+    ∷ stops (netA (two 0 2)) (two 0 2) 0 0 0
     ∷ lifts (netA (two 0 2)) (two 0 1) (two 0 1) (three 2 3 4)
-    ∷ stops (netA (one 0)) (two 0 1) 0 12
-    ∷ stops (netA (one 0)) (one 1) 1 11
+    ∷ stops (netA (one 0)) (two 0 1) 0 12 1
+    ∷ stops (netA (one 0)) (one 1) 1 11 2
     ∷ fires netB (one 0) 0 (two 0 1)
     ∷ plays netB (two 0 0) (two 0 1)
-    ∷ notLifted netB (two 0 0) 15 1
+    ∷ notLifted netB (two 0 0) 15 1 none
     ∷ lists netC 0 (one 0) (two 0 1)
     ∷ lists netC 1 (one 1) (one 1)
     ∷ lifts netC (one 0) (one 0) (two 0 1)
     ∷ lifts (netE (two 0 1)) (three 0 1 2) (three 0 1 3) (two 3 4)
     ∷ lifts (netE (two 0 1)) (three 1 0 2) (three 1 0 4) (two 3 4)
-    ∷ notExchanged (netE (two 0 1)) (three 0 1 2) 0 17 0
+    ∷ notExchanged (netE (two 0 1)) (three 0 1 2) 0 17 0 none
     ∷ exchanges (netE (three 0 1 2)) (three 0 1 2) 0 (three 1 0 2)
     ∷ lifts (netE (three 0 1 2)) (three 0 1 2) (three 0 1 2) (three 2 3 4)
     ∷ lifts (netE (three 0 1 2)) (three 1 0 2) (three 1 0 2) (three 2 3 4)
@@ -224,10 +236,10 @@ table =
 -- Further lines: the examples not marked P, the limits, and the points on which a reader might doubt (01, Nets to test with,
 -- Errors that look right and Refusal numbers).
 unfoldable pub further : List Line
-unfolding netA netB netC netD netE netR netL netW one two three four
+unfolding netA netB netC netD netE netR netS netL netW one two three four
 further =
     plays netC (two 0 0) (one 0)
-    ∷ notLifted netC (two 0 0) 15 1
+    ∷ notLifted netC (two 0 0) 15 1 none
     ∷ plays (netA (one 0)) [] (one 0)
     ∷ lifts (netA (one 0)) [] [] (one 0)
     ∷ projects (netA (one 0)) [] []
@@ -242,21 +254,31 @@ further =
     ∷ numbered netD 10 (byEvent 0 ∷ replicate 9 atStart) 522
     ∷ numbered netD 10 (replicate 9 atStart ++ byEvent 9 ∷ []) 11
     ∷ plays (netL (one 1) (([] ↝ one 15) ∷ [])) (one 27) (one 15)
-    ∷ notLifted (netL (one 1) (([] ↝ one 15) ∷ [])) (one 27) 13 27
-    ∷ notExchanged (netA (one 0)) (four 0 1 2 1) 0 17 0
-    ∷ notExchanged netR (two 0 1) 0 17 0
-    ∷ notExchanged netC (two 0 0) 0 17 0
-    ∷ notExchanged netR (two 0 1) 1 10 1
-    ∷ notExchanged netR [] 0 10 0
-    ∷ notExchanged netR (two 1 0) 0 11 0
-    ∷ notPlayed netB (three 0 0 2) 10 2
-    ∷ notLifted netB (three 0 0 2) 10 2
+    ∷ notLifted (netL (one 1) (([] ↝ one 15) ∷ [])) (one 27) 13 27 none
+    ∷ notExchanged (netA (one 0)) (four 0 1 2 1) 0 17 0 none
+    ∷ notExchanged netR (two 0 1) 0 17 0 none
+    ∷ notExchanged netC (two 0 0) 0 17 0 none
+    ∷ notExchanged netR (two 0 1) 1 10 1 none
+    ∷ notExchanged netR [] 0 10 0 none
+    ∷ notExchanged netR (two 1 0) 0 11 0 (some 2)
+    ∷ notPlayed netB (three 0 0 2) 10 2 none
+    ∷ notLifted netB (three 0 0 2) 10 2 none
     ∷ projects (netA (one 0)) (four 0 2 3 2) (four 0 1 2 1)
-    ∷ notProjected (netA (one 0)) (two 0 1) 11 1
-    ∷ notProjected (netA (one 0)) (two 0 4) 10 1
-    ∷ notProjected netB (two 0 0) 12 1
+    ∷ notProjected (netA (one 0)) (two 0 1) 11 1 (some 2)
+    ∷ notProjected (netA (one 0)) (two 0 4) 10 1 none
+    ∷ notProjected netB (two 0 0) 12 1 (some 2)
     ∷ projects netC (two 0 1) (two 0 0)
-    ∷ notLifted netC (replicate 4097 0) 3 0
-    ∷ notProjected netC (replicate 4097 0) 3 0
-    ∷ notExchanged netC (replicate 4097 0) 0 3 0
+    ∷ stops netS [] 0 11 1
+    ∷ stops netS (one 1) 0 11 2
+    ∷ stops netS (three 0 2 3) 1 12 2
+    ∷ stops netS (two 0 3) 1 12 3
+    ∷ stops netS (one 0) 1 0 0
+    ∷ stops netS [] 2 10 0
+    ∷ notPlayed netS (two 1 1) 12 1 (some 2)
+    ∷ notLifted netS (two 1 1) 12 1 (some 2)
+    ∷ notExchanged netS (two 1 0) 0 11 1 (some 1)
+    ∷ notProjected netC (two 0 0) 12 1 (some 1)
+    ∷ notLifted netC (replicate 4097 0) 3 0 none
+    ∷ notProjected netC (replicate 4097 0) 3 0 none
+    ∷ notExchanged netC (replicate 4097 0) 0 3 0 none
     ∷ []

@@ -81,6 +81,18 @@ stopNumber unknown = 10
 stopNumber (lacks b) = 11
 stopNumber (meets b) = 12
 
+-- The condition at which a firing is stopped; there is none where there is no such event (02, No. 2).
+abbrev pub stopCondition : Stop → Option ℕ
+stopCondition unknown = none
+stopCondition (lacks b) = some b
+stopCondition (meets b) = some b
+
+-- The place of a firing that is no step of a run: that condition, and 0 where there is none (02, No. 2).
+abbrev pub stopPlace : Stop → ℕ
+stopPlace unknown = 0
+stopPlace (lacks b) = b
+stopPlace (meets b) = b
+
 -- An unknown event comes before a lacking precondition, and that before contact (01, Refusal numbers).
 abbrev pub firstStop : Bool → Option ℕ → Option ℕ → Option Stop
 firstStop false a z = some unknown

@@ -1,16 +1,23 @@
--- What an answer says: the number and place for each case, how one test of a chain follows another, and what a call leaves in a
--- lent output.
+-- What an answer says: the number, the place and the condition for each case, how one test of a chain follows another, and what a call
+-- leaves in a lent output.
 use Prim.Native.Nat.{ℕ}
 use mathlib.Core.Bool.{Bool, true, false}
+use mathlib.Core.Option.{Option, none, some}
 use mathlib.Core.List.{List, _++_}
 use lib.Dec.{leb}
 use lib.ListN.{length, drop}
+use Rattle.refusal.specs.declared.By.{By}
+use Rattle.refusal.specs.declared.By.the-variants.{Nothing, Table, Unfolded}
 use Rattle.refusal.specs.declared.Judged.{Judged}
 use Rattle.refusal.specs.declared.Judged.the-variants.{Fine, Refused}
 
--- A refusal as an answer (01, Refusal numbers).
+-- A refusal as an answer, with what stopped a step (01, Refusal numbers; 02, No. 2).
+abbrev pub refusedBy : ℕ → ℕ → By → Judged
+refusedBy number place by = Refused (record { number = number; place = place; by = by })
+
+-- A refusal that no condition caused (01, Refusal numbers).
 abbrev pub refusedAt : ℕ → ℕ → Judged
-refusedAt number place = Refused (record { number = number; place = place })
+refusedAt number place = refusedBy number place Nothing
 
 -- The number of an answer, 0 where nothing is refused (01, Refusal numbers, first column).
 abbrev pub numberOf : Judged → ℕ
@@ -21,6 +28,17 @@ numberOf (Refused refusal) = refusal .number
 abbrev pub placeOf : Judged → ℕ
 placeOf (Fine value) = 0
 placeOf (Refused refusal) = refusal .place
+
+-- What stopped a step, nothing where nothing is refused (02, No. 2).
+abbrev pub byOf : Judged → By
+byOf (Fine value) = Nothing
+byOf (Refused refusal) = refusal .by
+
+-- The number of the condition that stopped a step, if one did: in the numbering of the table or of the unfolding (02, No. 2).
+abbrev pub conditionOf : By → Option ℕ
+conditionOf Nothing = none
+conditionOf (Table b) = some (b .0)
+conditionOf (Unfolded b) = some (b .0)
 
 -- The offset or count that a fine answer carries, 0 where it is refused.
 abbrev pub valueOf : Judged → ℕ
