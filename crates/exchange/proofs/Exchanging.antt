@@ -13,7 +13,7 @@ use Rattle.lists.proofs.Bools.{iff}
 use Rattle.model.specs.Net.{Net, Marking, begin, fire}
 use Rattle.model.specs.Runs.{runs, end, opening, replay}
 use Rattle.model.specs.Exchange.{apart, apartStep, exchanged}
-use Rattle.model.specs.Across.{Refusal, Answer, run, unless, stuck, mostSteps, tooLong, noStep, notApart, exchanging, exchange}
+use Rattle.model.specs.Across.{ofTable, Refusal, Answer, run, unless, stuck, mostSteps, tooLong, noStep, notApart, exchanging, exchange}
 use Rattle.model.proofs.Firing.{runs-first, runs-rest, runs-cons, runs-event}
 use Rattle.model.proofs.Answers.{not-stuck, stuck-none, short-length, length-short}
 use Rattle.refusal.specs.declared.Refusal as table
@@ -55,7 +55,7 @@ module _ (s : List ℕ) (n : ℕ) (offsets r : List ℕ) (k : ℕ) (x : Exchange
   before-is answer l p =
       let next = x .next in
       let short = length-short (take k r) (omega (arith, length-take-le k r (omega arith), x .short)) in
-      let free = stuck-none (netOf s) 0 (begunAt (netOf s) (begin (netOf s))) (take k r) (runs-take (netOf s) (begin (netOf s)) r k (x .plays)) in
+      let free = stuck-none ofTable (netOf s) 0 (begunAt (netOf s) (begin (netOf s))) (take k r) (runs-take (netOf s) (begin (netOf s)) r k (x .plays)) in
       p .reached (netOf s .conditions) (p .told ∙ rw (short, free))
 
   pub apart-asked : (a i : ℕ) → a ≡ k → i ≡ suc k → (answer : Judged) (l : List ℕ) → Plays (netOf s) (begin (netOf s)) (take a r) answer l
@@ -114,28 +114,28 @@ module _ (s r : List ℕ) (k : ℕ) where
     abbrev rest : Judged
     rest = swapping (unless (noStep r k) (unless (notApart (netOf s) r k) (run (exchanged k r))))
 
-    chain : exchangeOf s r k ≡ refusedOr (tooLong r) (refusedOr (stuck (replay (netOf s) 0 (begunAt (netOf s) (begin (netOf s))) r)) rest)
+    chain : exchangeOf s r k ≡ refusedOr (tooLong r) (refusedOr (stuck ofTable (replay (netOf s) 0 (begunAt (netOf s) (begin (netOf s))) r)) rest)
     unfolding exchangeOf exchange exchanging opening begunAt begin
     chain =
         simp j (swapping-unless (tooLong r) (exchanging (netOf s) r k)
-        ∙ ap (refusedOr (tooLong r)) (swapping-unless (stuck (replay (netOf s) 0 (opening (netOf s)) r)) (unless (noStep r k) (unless (notApart (netOf s) r k) (run (exchanged k r))))))
+        ∙ ap (refusedOr (tooLong r)) (swapping-unless (stuck ofTable (replay (netOf s) 0 (opening (netOf s)) r)) (unless (noStep r k) (unless (notApart (netOf s) r k) (run (exchanged k r))))))
 
     module _ (answer : Judged) (l : List ℕ) (p : Plays (netOf s) (begin (netOf s)) r answer l) where
       pub stopped-run : (x : table.Refusal) → answer ≡ Refused x → (answer ≡ exchangeOf s r k) × (r ≡ exchangedOf s r k)
       stopped-run x e =
           kept-run answer x e
-          (p .told ∙ links-refused (tooLong r) (stuck (replay (netOf s) 0 (begunAt (netOf s) (begin (netOf s))) r)) (netOf s .conditions) rest x (sym (p .told) ∙ e) ∙ sym chain)
+          (p .told ∙ links-refused (tooLong r) (stuck ofTable (replay (netOf s) 0 (begunAt (netOf s) (begin (netOf s))) r)) (netOf s .conditions) rest x (sym (p .told) ∙ e) ∙ sym chain)
 
       module _ (y : ℕ) (e : answer ≡ Fine y) where
         pub whole-run : T (runs (netOf s) (begin (netOf s)) r) × (length r ≤ mostSteps)
         unfolding begunAt
         whole-run =
-            let (a, b) = links-open (tooLong r) (stuck (replay (netOf s) 0 (begunAt (netOf s) (begin (netOf s))) r)) (netOf s .conditions) y (sym (p .told) ∙ e) in
-            (not-stuck (netOf s) 0 (begunAt (netOf s) (begin (netOf s))) r b, short-length r a)
+            let (a, b) = links-open (tooLong r) (stuck ofTable (replay (netOf s) 0 (begunAt (netOf s) (begin (netOf s))) r)) (netOf s .conditions) y (sym (p .told) ∙ e) in
+            (not-stuck ofTable (netOf s) 0 (begunAt (netOf s) (begin (netOf s))) r b, short-length r a)
 
         goes : rest ≡ exchangeOf s r k
         goes =
-            links-fine (tooLong r) (stuck (replay (netOf s) 0 (begunAt (netOf s) (begin (netOf s))) r)) (netOf s .conditions) y rest (sym (p .told) ∙ e) .1
+            links-fine (tooLong r) (stuck ofTable (replay (netOf s) 0 (begunAt (netOf s) (begin (netOf s))) r)) (netOf s .conditions) y rest (sym (p .told) ∙ e) .1
             ∙ sym chain
 
         pub no-step : ltb (suc k) (length r) ≡ false → refusedAt 10 k ≡ exchangeOf s r k

@@ -8,6 +8,7 @@ use lib.Dec.{ltb}
 use lib.ListN.{length}
 use borrow.Author.Tests.{lt-ltb, le-ltb, ltb-true}
 use Rattle.model.specs.Net.{Marking, free, lacking, contact, fire, Stop, unknown, lacks, meets, stopping}
+use Rattle.model.specs.Across.{ofTable, stopped}
 use Rattle.refusal.specs.declared.Refusal.{Refusal}
 use Rattle.refusal.specs.declared.Judged.{Judged}
 use Rattle.refusal.specs.declared.Judged.the-variants.{Fine, Refused}
@@ -16,7 +17,7 @@ use Rattle.refusal.proofs.Chain.{need-fine, goes-on}
 use Rattle.records.specs.Records.{conditions}
 use Rattle.table.specs.Walk.{judgeOf, offsetOf}
 use Rattle.table.specs.Decoded.{netOf}
-use Rattle.table.specs.Links.{refusedOr}
+use Rattle.table.specs.Links.{refusing, refusedOr}
 use Rattle.table.proofs.Decoded.{net-judged, conditions-are-all}
 use Rattle.step.specs.declared.Cause.the-variants.{Unknown}
 use Rattle.step.specs.declared.Step.{Step}
@@ -24,8 +25,8 @@ use Rattle.step.specs.declared.Step.the-variants.{Stops}
 use Rattle.model.specs.Lent.{bytes, marking}
 use Rattle.step.specs.Lent.{Lent}
 use Rattle.game.specs.Lent.{lent}
-use Rattle.step.specs.Steps.{recordNet, stepOf, stepped, answeredOf}
-use Rattle.game.specs.Calls.{onMarking, leaves, stoppedAt, firingOf, firedOf}
+use Rattle.step.specs.Steps.{recordNet, causeOf, stepOf, stepped, stoppedAt, answeredOf}
+use Rattle.game.specs.Calls.{onMarking, leaves, firingStopped, firingOf, firedOf}
 use Rattle.game.specs.Ready.{readyOf}
 use Rattle.game.proofs.Marked.{on-then, on-fine}
 
@@ -65,11 +66,18 @@ module _ (s : List ℕ) (n : ℕ) (j : judgeOf s ≡ Fine n) (e : ℕ) (l : List
 
 -- ---- a step's answer is the model's
 
-pub answered-is : (o : Option Stop) (place value : ℕ) → answeredOf (stepOf o) place value ≡ refusedOr (stoppedAt place o) (Fine value)
-answered-is none place value = refl
-answered-is (some unknown) place value = refl
-answered-is (some (lacks b)) place value = refl
-answered-is (some (meets b)) place value = refl
+-- in a run, at a step
+pub stopped-is : (v : Stop) (k : ℕ) → stoppedAt (causeOf v) k ≡ refusing (stopped ofTable v k)
+stopped-is unknown k = refl
+stopped-is (lacks b) k = refl
+stopped-is (meets b) k = refl
+
+-- of a firing, at the condition
+answered-is : (o : Option Stop) (value : ℕ) → answeredOf (stepOf o) value ≡ refusedOr (firingStopped ofTable o) (Fine value)
+answered-is none value = refl
+answered-is (some unknown) value = refl
+answered-is (some (lacks b)) value = refl
+answered-is (some (meets b)) value = refl
 
 -- ---- an event asked for
 
@@ -99,27 +107,27 @@ module _ (s m : List ℕ) (e : ℕ) where
 
 module _ (s m : List ℕ) (e v : ℕ) where
   abbrev asking : ℕ → Judged
-  asking at = refusedOr (stoppedAt 0 (stopping (recordNet s at) (marking m) 0)) (Fine v)
+  asking at = refusedOr (firingStopped ofTable (stopping (recordNet s at) (marking m) 0)) (Fine v)
 
   pub firing-ready : firingOf s m e v ≡ andThen (readyOf s m e) asking
   unfolding firingOf readyOf onMarking need
   firing-ready = sym (on-then s m (λ n. need (ltb e n) 10 0 (Fine (offsetOf s e))) asking ∙ go (judgeOf s) refl)
     where
       tested : (n : ℕ) → judgeOf s ≡ Fine n → (b : Bool) → ltb e n ≡ b
-          → andThen (need b 10 0 (Fine (offsetOf s e))) asking ≡ refusedOr (stoppedAt 0 (stopping (netOf s) (marking m) e)) (Fine v)
+          → andThen (need b 10 0 (Fine (offsetOf s e))) asking ≡ refusedOr (firingStopped ofTable (stopping (netOf s) (marking m) e)) (Fine v)
       tested n j true t = rw (stopping-found s n j e (ltb-true e n t) (marking m))
       tested n j false t = rw (stopping-unknown s n j e t (marking m))
 
       go : (x : Judged) → judgeOf s ≡ x
           → andThen x (λ n. lent (netOf s .conditions) m (andThen (need (ltb e n) 10 0 (Fine (offsetOf s e))) asking))
-          ≡ andThen x (λ n. lent (netOf s .conditions) m (refusedOr (stoppedAt 0 (stopping (netOf s) (marking m) e)) (Fine v)))
+          ≡ andThen x (λ n. lent (netOf s .conditions) m (refusedOr (firingStopped ofTable (stopping (netOf s) (marking m) e)) (Fine v)))
       go (Fine n) j = ap (lent (netOf s .conditions) m) (tested n j (ltb e n) refl)
       go (Refused x) j = refl
 
   -- the answer r of the step at the event's offset is that of the call
-  pub firing-told : (at : ℕ) (r : Step) → readyOf s m e ≡ Fine at → r ≡ stepOf (stopping (recordNet s at) (marking m) 0) → answeredOf r 0 v ≡ firingOf s m e v
+  pub firing-told : (at : ℕ) (r : Step) → readyOf s m e ≡ Fine at → r ≡ stepOf (stopping (recordNet s at) (marking m) 0) → answeredOf r v ≡ firingOf s m e v
   firing-told at r h told =
-      ap (λ (x : Step). answeredOf x 0 v) told ∙ answered-is (stopping (recordNet s at) (marking m) 0) 0 v ∙ sym (firing-ready ∙ goes-on asking (sym h) refl)
+      ap (λ (x : Step). answeredOf x v) told ∙ answered-is (stopping (recordNet s at) (marking m) 0) v ∙ sym (firing-ready ∙ goes-on asking (sym h) refl)
 
 -- the lent marking, by what the asking for the event answered
 module _ (s m : List ℕ) (e : ℕ) where
@@ -143,6 +151,6 @@ module _ (s m : List ℕ) (e : ℕ) where
     fired-fine = rw (firing-ready s m e (netOf s .conditions), h, new-is) (go stops)
       where
         go : (o : Option Stop) → stepped o (bytes (netOf s .conditions) (fire (netOf s) (marking m) e)) m
-            ≡ leaves (refusedOr (stoppedAt 0 o) (Fine (netOf s .conditions))) (bytes (netOf s .conditions) (fire (netOf s) (marking m) e)) m
+            ≡ leaves (refusedOr (firingStopped ofTable o) (Fine (netOf s .conditions))) (bytes (netOf s .conditions) (fire (netOf s) (marking m) e)) m
         go none = refl
         go (some v) = refl

@@ -2,8 +2,8 @@
 use mathlib.Core.Option.{Option, none, some}
 use mathlib.Core.List.{List}
 use Prim.Native.Nat.{ℕ}
-use Rattle.model.specs.Net.{fire, Stop, stopping}
-use Rattle.model.specs.Across.{Refusal, stopped}
+use Rattle.model.specs.Net.{fire, Stop, stopPlace, stopping}
+use Rattle.model.specs.Across.{Whose, ofTable, Refusal, stopped}
 use Rattle.refusal.specs.declared.Judged.{Judged}
 use Rattle.refusal.specs.declared.Judged.the-variants.{Fine, Refused}
 use Rattle.refusal.specs.Answer.{andThen}
@@ -26,14 +26,15 @@ leaves (Refused x) new old = old
 
 -- ---- concession and firing
 
--- What stops a step at a place, as the model's refusal (01, Refusal numbers).
-abbrev pub stoppedAt : ℕ → Option Stop → Option Refusal
-stoppedAt k none = none
-stoppedAt k (some v) = some (stopped v k)
+-- What stops a firing, as the model's refusal: its place is the condition that stops it (02, No. 2).
+abbrev pub firingStopped : Whose → Option Stop → Option Refusal
+firingStopped w none = none
+firingStopped w (some v) = some (stopped w v (stopPlace v))
 
--- An event asked for at a lent marking: 1 to 9, 18, then 10, 11, 12 at place 0; fine: a value (01, Refusal numbers).
+-- An event asked for at a lent marking: 1 to 9, 18, then 10 at 0, 11 and 12 at the condition; fine: a value (01, Refusal numbers; 02,
+-- No. 2).
 unfoldable pub firingOf : List ℕ → List ℕ → ℕ → ℕ → Judged
-firingOf s m e value = onMarking s m (λ n. refusedOr (stoppedAt 0 (stopping (netOf s) (marking m) e)) (Fine value))
+firingOf s m e value = onMarking s m (λ n. refusedOr (firingStopped ofTable (stopping (netOf s) (marking m) e)) (Fine value))
 
 -- Concession is only tested, so nothing is written (01, Playing the table).
 abbrev pub concessionOf : List ℕ → List ℕ → ℕ → Judged

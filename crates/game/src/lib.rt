@@ -63,7 +63,7 @@ pub fn concession<'a>(table: &'a [u8], marking: &'a [u8], event: TableEvent) -> 
     let Judged::Fine(at) = asked else {
         return asked;
     };
-    step::answered(step::test_at(table, at, marking), 0, 0)
+    step::answered(step::test_at(table, at, marking), 0)
 }
 
 // An event fired at a lent marking, over which the new one is written.
@@ -76,5 +76,5 @@ pub fn fire(table: &[u8], marking: &mut [u8], event: TableEvent) -> Judged
         return asked;
     };
     let count = words::word(table, 0) as usize;
-    step::answered(step::step_at(table, at, marking), 0, count)
+    step::answered(step::step_at(table, at, marking), count)
 }

@@ -12,7 +12,7 @@ use Rattle.model.specs.Net.{Net, Marking, begin}
 use Rattle.model.specs.Runs.{runs, Marker, State, opening, after, replay}
 use Rattle.model.specs.Unfolding.{markers, reads}
 use Rattle.model.specs.Numbering.{number, radix, size}
-use Rattle.model.specs.Across.{Refusal, Answer, run, unless, stuck, tooLong, unfoldingRefused, orStart, earliest, coloured, lifted, repeated, again, lifting, lift}
+use Rattle.model.specs.Across.{ofTable, Refusal, Answer, run, unless, stuck, tooLong, unfoldingRefused, orStart, earliest, coloured, lifted, repeated, again, lifting, lift}
 use Rattle.model.proofs.Answers.{not-stuck, stuck-none, run-lifting}
 use Rattle.model.proofs.Firing.{runs-events, runs-event}
 use Rattle.refusal.specs.declared.Refusal as declared
@@ -80,14 +80,14 @@ unfolding opening begunAt begin
 begun-opening n = refl
 
 module _ (s r : List ℕ) (answer : Judged) (l : List ℕ) (p : Plays (netOf s) (begin (netOf s)) r answer l) where
-  told : answer ≡ refusedOr (tooLong r) (refusedOr (stuck (replay (netOf s) 0 (opening (netOf s)) r)) (Fine (netOf s .conditions)))
-  told = p .told ∙ ap (λ (t : State). refusedOr (tooLong r) (refusedOr (stuck (replay (netOf s) 0 t r)) (Fine (netOf s .conditions)))) (begun-opening (netOf s))
+  told : answer ≡ refusedOr (tooLong r) (refusedOr (stuck ofTable (replay (netOf s) 0 (opening (netOf s)) r)) (Fine (netOf s .conditions)))
+  told = p .told ∙ ap (λ (t : State). refusedOr (tooLong r) (refusedOr (stuck ofTable (replay (netOf s) 0 t r)) (Fine (netOf s .conditions)))) (begun-opening (netOf s))
 
   -- a step that is stopped is what the lift answers
   pub lift-stopped : (room : ℕ) {x : declared.Refusal} → acrossOf s r (Fine 0) ≡ Fine 0 → acrossOf s r (fitted (liftingOf (netOf s) r) room) ≡ fitted (liftingOf (netOf s) r) room → answer ≡ Refused x → answer ≡ liftOf s r room
   unfolding lifting
   lift-stopped room {x} z o t =
-      let st = stuck (replay (netOf s) 0 (opening (netOf s)) r) in
+      let st = stuck ofTable (replay (netOf s) 0 (opening (netOf s)) r) in
       let a = unless (again (repeated (netOf s) (earliest (netOf s)) 0 (opening (netOf s)) r)) (run (lifted (netOf s) (earliest (netOf s)) (opening (netOf s)) r)) in
       told ∙ links-refused (tooLong r) st (netOf s .conditions) (fitted a room) x (sym told ∙ t)
       ∙ ap (λ (y : Option Refusal). refusedOr y (refusedOr st (fitted a room))) (across-open s r z .0)
@@ -96,14 +96,14 @@ module _ (s r : List ℕ) (answer : Judged) (l : List ℕ) (p : Plays (netOf s) 
   -- else it is a run
   pub lift-runs : (x : ℕ) → answer ≡ Fine x → T (runs (netOf s) (begin (netOf s)) r)
   unfolding opening
-  lift-runs x t = not-stuck (netOf s) 0 (opening (netOf s)) r (links-open (tooLong r) (stuck (replay (netOf s) 0 (opening (netOf s)) r)) (netOf s .conditions) x (sym told ∙ t) .1)
+  lift-runs x t = not-stuck ofTable (netOf s) 0 (opening (netOf s)) r (links-open (tooLong r) (stuck ofTable (replay (netOf s) 0 (opening (netOf s)) r)) (netOf s .conditions) x (sym told ∙ t) .1)
 
 -- ---- a run lifted
 
 module _ (n : Net) (r : List ℕ) (t : T (runs n (begin n) r)) (room : ℕ) where
-  plays : stuck (replay n 0 (opening n) r) ≡ none
+  plays : stuck ofTable (replay n 0 (opening n) r) ≡ none
   unfolding opening
-  plays = stuck-none n 0 (opening n) r t
+  plays = stuck-none ofTable n 0 (opening n) r t
 
   -- 15
   pub lift-again : (k : ℕ) → some k ≡ repeated n (earliest n) 0 (opening n) r → refusedAt 15 k ≡ fitted (liftingOf n r) room

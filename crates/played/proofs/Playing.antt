@@ -13,7 +13,7 @@ use Rattle.lists.specs.Lists.{mem}
 use Rattle.lists.proofs.Bools.{is-false}
 use Rattle.model.specs.Net.{Net, Sound, Marking, can, fire, Stop, stopping}
 use Rattle.model.specs.Runs.{runs, end, replay}
-use Rattle.model.specs.Across.{stopped, stuck, tooLong, mostSteps}
+use Rattle.model.specs.Across.{ofTable, stopped, stuck, tooLong, mostSteps}
 use Rattle.model.proofs.Firing.{can-event, none-can, fire-none, runs-snoc}
 use Rattle.model.proofs.Replay.{stops-replay}
 use Rattle.model.proofs.Answers.{stuck-none, length-short}
@@ -25,14 +25,13 @@ use borrow.Author.Tests.{lt-leb}
 use Rattle.step.specs.declared.Cause.{Cause}
 use Rattle.step.specs.declared.Step.{Step}
 use Rattle.step.specs.declared.Step.the-variants.{Goes, Stops}
-use Rattle.step.specs.Steps.{stepOf, stepped, answeredOf}
-use Rattle.game.proofs.Found.{answered-is}
+use Rattle.step.specs.Steps.{causeOf, stepOf, stepped, stoppedAt}
+use Rattle.game.proofs.Found.{stopped-is}
 use Rattle.model.specs.Lent.{bytes, marking}
 use Rattle.step.specs.Lent.{Lent}
-use Rattle.game.specs.Calls.{stoppedAt}
 use Rattle.played.specs.Begun.{begunAt}
 use Rattle.played.specs.Played.{Plays}
-use Rattle.table.specs.Links.{refusedOr}
+use Rattle.table.specs.Links.{refusing}
 use Rattle.model.proofs.Lent.{length-bytes, tidy-marking, marking-bytes}
 use Rattle.step.proofs.Bytes.{lent-bytes}
 
@@ -82,10 +81,10 @@ module _ (n : Net) (m : Marking) (r : List ℕ) (k c : ℕ) (l : List ℕ) (g : 
           plays = rw next (runs-snoc n m (take k r) (getD r k 0) (g .plays) (subst (λ (x : Marking). T (can n x (getD r k 0))) (g .here) can-fire));
         }
 
-    pub going-stop : (v : Stop) → stopping n (marking l) (getD r k 0) ≡ some v → stuck (replay n 0 (begunAt n m) r) ≡ some (stopped v k)
+    pub going-stop : (v : Stop) → stopping n (marking l) (getD r k 0) ≡ some v → stuck ofTable (replay n 0 (begunAt n m) r) ≡ some (stopped ofTable v k)
     unfolding begunAt
     going-stop v o =
-        ap stuck (stops-replay n 0 (begunAt n m) r v k record {
+        ap (stuck ofTable) (stops-replay n 0 (begunAt n m) r v k record {
           before = take k r;
           event = getD r k 0;
           rest = drop (suc k) r;
@@ -102,9 +101,9 @@ module _ (n : Net) (m : Marking) (r : List ℕ) (k c : ℕ) (l : List ℕ) (g : 
     pub going-end : marking l ≡ end n m r
     going-end = g .here ∙ ap (end n m) whole
 
-    pub going-free : stuck (replay n 0 (begunAt n m) r) ≡ none
+    pub going-free : stuck ofTable (replay n 0 (begunAt n m) r) ≡ none
     unfolding begunAt
-    going-free = stuck-none n 0 (begunAt n m) r (subst (λ (x : List ℕ). T (runs n m x)) whole (g .plays))
+    going-free = stuck-none ofTable n 0 (begunAt n m) r (subst (λ (x : List ℕ). T (runs n m x)) whole (g .plays))
 
 -- ---- the step's answer q, for the step that stands at k
 
@@ -112,9 +111,9 @@ step-none : (o : Option Stop) (q : Step) → q ≡ stepOf o → q ≡ Goes → o
 step-none none q e h = refl
 step-none (some v) q e h = absurd (let z : _≡_ {A = ℕ} 0 1 = cc in omega arith)
 
-step-some : (o : Option Stop) (q : Step) (x : Cause) → q ≡ stepOf o → q ≡ Stops x → (v : Stop) × (o ≡ some v)
+step-some : (o : Option Stop) (q : Step) (x : Cause) → q ≡ stepOf o → q ≡ Stops x → (v : Stop) × (o ≡ some v) × (x ≡ causeOf v)
 step-some none q x e h = absurd (let z : _≡_ {A = ℕ} 0 1 = cc in omega arith)
-step-some (some v) q x e h = (v, refl)
+step-some (some v) q x e h = (v, refl, cc)
 
 module _ (n : Net) (m : Marking) (r : List ℕ) (k c : ℕ) (l : List ℕ) (g : Going n m r k c l) (h : k < length r) (q : Step)
     (told : q ≡ stepOf (stopping n (marking l) (getD r k 0))) (new : List ℕ)
@@ -124,11 +123,11 @@ module _ (n : Net) (m : Marking) (r : List ℕ) (k c : ℕ) (l : List ℕ) (g : 
       let o = step-none (stopping n (marking l) (getD r k 0)) q told e in
       going-on n m r k c l g h s room o new (left ∙ rw o)
 
-  pub step-ends : n .conditions ≤ c → length r ≤ mostSteps → (x : Cause) → q ≡ Stops x → (answer : Judged) → answer ≡ answeredOf q k 0 → Plays n m r answer new
+  pub step-ends : n .conditions ≤ c → length r ≤ mostSteps → (x : Cause) → q ≡ Stops x → (answer : Judged) → answer ≡ stoppedAt x k → Plays n m r answer new
   step-ends room short x e answer a =
-      let (v, o) = step-some (stopping n (marking l) (getD r k 0)) q x told e in
+      let (v, o, z) = step-some (stopping n (marking l) (getD r k 0)) q x told e in
       let kept : new ≡ l = left ∙ rw o in
-      let is : answer ≡ refusedOr (stoppedAt k (some v)) (Fine 0) = a ∙ ap (λ (y : Step). answeredOf y k 0) (told ∙ ap stepOf o) ∙ answered-is (some v) k 0 in
+      let is : answer ≡ refusing (stopped ofTable v k) = a ∙ ap (λ (y : Cause). stoppedAt y k) z ∙ stopped-is v k in
       record {
         told = is ∙ rw (length-short r short, going-stop n m r k c l g h v o);
         lents = subst (λ (y : List ℕ). Lent y) (sym kept) (g .lents);

@@ -5,7 +5,7 @@ use Prim.Native.Nat.{ℕ, _≤_, _<_}
 use lib.ListN.{length, getD}
 use Rattle.model.specs.Net.{Net, Marking}
 use Rattle.model.specs.Runs.{end, replay}
-use Rattle.model.specs.Across.{stuck, tooLong}
+use Rattle.model.specs.Across.{ofTable, stuck, tooLong}
 use Rattle.refusal.specs.declared.Judged.{Judged}
 use Rattle.refusal.specs.declared.Judged.the-variants.{Fine}
 use Rattle.records.specs.Records.{conditions}
@@ -31,7 +31,7 @@ pub record Playable (s : List ℕ) (n : ℕ) (offsets l : List ℕ) : Type 0 whe
 -- A run played from a marking: the answer is 3, then what its steps say, and where it is fine the bytes are those of the end (01,
 -- Refusal numbers).
 pub record Plays (n : Net) (m : Marking) (r : List ℕ) (answer : Judged) (l : List ℕ) : Type 0 where
-  pub told : answer ≡ refusedOr (tooLong r) (refusedOr (stuck (replay n 0 (begunAt n m) r)) (Fine (n .conditions)))
+  pub told : answer ≡ refusedOr (tooLong r) (refusedOr (stuck ofTable (replay n 0 (begunAt n m) r)) (Fine (n .conditions)))
   pub lents : Lent l
   pub room : n .conditions ≤ length l
   pub reached : (x : ℕ) → answer ≡ Fine x → marking l ≡ end n m r

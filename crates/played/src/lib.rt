@@ -73,9 +73,9 @@ pub fn play<'a>(
     let mut k: usize = 0;
     while k < run.len() {
         let step = step_event(table, n, offsets, run[k], state);
-        let Step::Goes = step else {
-            return step::answered(step, k, 0);
-        };
+        if let Step::Stops(cause) = step {
+            return step::stopped_at(cause, k);
+        }
         k = k + 1;
     }
     Judged::Fine(words::word(table, 0) as usize)

@@ -7,7 +7,7 @@ use lib.ListN.{length, take}
 use lib.Seq.{getD-take, length-take-le}
 use Rattle.model.specs.Net.{Net, Marking, begin}
 use Rattle.model.specs.Runs.{end, opening, replay}
-use Rattle.model.specs.Across.{stuck, tooLong}
+use Rattle.model.specs.Across.{ofTable, stuck, tooLong}
 use Rattle.refusal.specs.declared.Refusal as table
 use Rattle.refusal.specs.declared.Judged.{Judged}
 use Rattle.refusal.specs.declared.Judged.the-variants.{Fine, Refused}
@@ -39,11 +39,11 @@ module _ (n : Net) (m : Marking) (r : List ℕ) (answer : Judged) (l : List ℕ)
   unfolding playedOf
   tail-refused room x e =
       p .told
-      ∙ links-refused (tooLong r) (stuck (replay n 0 (begunAt n m) r)) (n .conditions) (fitting (n .conditions) room) x (sym (p .told) ∙ e)
+      ∙ links-refused (tooLong r) (stuck ofTable (replay n 0 (begunAt n m) r)) (n .conditions) (fitting (n .conditions) room) x (sym (p .told) ∙ e)
 
   module _ (count : ℕ) (e : answer ≡ Fine count) where
     count-is : count ≡ n .conditions
-    count-is = links-fine (tooLong r) (stuck (replay n 0 (begunAt n m) r)) (n .conditions) count (Fine 0) (sym (p .told) ∙ e) .0
+    count-is = links-fine (tooLong r) (stuck ofTable (replay n 0 (begunAt n m) r)) (n .conditions) count (Fine 0) (sym (p .told) ∙ e) .0
 
     pub tail-room : count ≤ length l
     tail-room = omega (arith, count-is, p .room)
@@ -52,7 +52,7 @@ module _ (n : Net) (m : Marking) (r : List ℕ) (answer : Judged) (l : List ℕ)
     unfolding playedOf
     tail-fine room =
         ap (λ (c : ℕ). fitting c room) count-is
-        ∙ links-fine (tooLong r) (stuck (replay n 0 (begunAt n m) r)) (n .conditions) count (fitting (n .conditions) room) (sym (p .told) ∙ e) .1
+        ∙ links-fine (tooLong r) (stuck ofTable (replay n 0 (begunAt n m) r)) (n .conditions) count (fitting (n .conditions) room) (sym (p .told) ∙ e) .1
 
     tail-left : take count l ≡ bytes (n .conditions) (end n m r)
     tail-left = ap (λ (c : ℕ). take c l) count-is ∙ ending l (n .conditions) (end n m r) (p .lents) (p .room) (p .reached count e)

@@ -4,7 +4,7 @@ use Prim.Native.Nat.{ℕ}
 use lib.ListN.{length}
 use Rattle.model.specs.Net.{Net, begin}
 use Rattle.model.specs.Runs.{end, State, opening, replay}
-use Rattle.model.specs.Across.{stuck, tooLong}
+use Rattle.model.specs.Across.{ofTable, stuck, tooLong}
 use Rattle.refusal.specs.declared.Judged.{Judged}
 use Rattle.refusal.specs.Answer.{andThen, fitting, written}
 use Rattle.table.specs.Walk.{judgeOf}
@@ -18,7 +18,7 @@ use Rattle.played.specs.Begun.{begunAt}
 unfoldable pub playedOf : Net → State → List ℕ → ℕ → Judged
 playedOf n s r room =
     refusedOr (tooLong r)
-    (refusedOr (stuck (replay n 0 s r))
+    (refusedOr (stuck ofTable (replay n 0 s r))
     (fitting (n .conditions) room))
 
 -- A replay from the table's own marking (01, Playing the table).

@@ -6,9 +6,11 @@ use Prim.Native.Nat.{ℕ}
 use lib.Dec.{eqb}
 use lib.ListN.{getD, set}
 use Rattle.model.specs.Net.{Net, Marking, Stop, unknown, lacks, meets}
+use Rattle.refusal.specs.declared.By.{By}
+use Rattle.refusal.specs.declared.By.the-variants as by
 use Rattle.refusal.specs.declared.Judged.{Judged}
 use Rattle.refusal.specs.declared.Judged.the-variants.{Fine}
-use Rattle.refusal.specs.Answer.{refusedAt}
+use Rattle.refusal.specs.Answer.{refusedBy}
 use Rattle.words.specs.Words.{words}
 use Rattle.records.specs.Records.{conditions, flags, prePart, postPart}
 use Rattle.step.specs.declared.Cause.{Cause}
@@ -76,7 +78,23 @@ abbrev pub stepped : Option Stop → List ℕ → List ℕ → List ℕ
 stepped none new old = new
 stepped (some v) new old = old
 
--- A step's answer as that of a call: a value where it goes, else the refusal at a place (01, Refusal numbers).
-abbrev pub answeredOf : Step → ℕ → ℕ → Judged
-answeredOf Goes place value = Fine value
-answeredOf (Stops x) place value = refusedAt (causeNumber x) place
+-- The condition that stops a step, if one does (02, No. 2).
+abbrev pub causeBy : Cause → By
+causeBy Unknown = by.Nothing
+causeBy (Lacks b) = by.Table b
+causeBy (Meets b) = by.Table b
+
+-- The place of a firing that is no step of a run: that condition, and 0 where there is none (02, No. 2).
+abbrev pub causePlace : Cause → ℕ
+causePlace Unknown = 0
+causePlace (Lacks b) = b .0
+causePlace (Meets b) = b .0
+
+-- What stops a step as the refusal at a place (01, Refusal numbers; 02, No. 2).
+abbrev pub stoppedAt : Cause → ℕ → Judged
+stoppedAt x place = refusedBy (causeNumber x) place (causeBy x)
+
+-- A firing's answer as that of a call: a value where it goes, else the refusal at the condition (01, Refusal numbers; 02, No. 2).
+abbrev pub answeredOf : Step → ℕ → Judged
+answeredOf Goes value = Fine value
+answeredOf (Stops x) value = stoppedAt x (causePlace x)

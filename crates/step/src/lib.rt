@@ -1,4 +1,5 @@
 // One step of the token game on a table's bytes: what stops the event whose record stands at an offset, and what its firing writes.
+use refusal::By;
 use refusal::Judged;
 use refusal::TableCondition;
 ghost use mathlib.Core.Path.{_≡_};
@@ -9,7 +10,7 @@ ghost use Rattle.words.specs.Words.{words};
 ghost use Rattle.model.specs.Net.{stopping, fire};
 ghost use Rattle.model.specs.Lent.{bytes, marking};
 ghost use Rattle.step.specs.Lent.{Lent};
-ghost use Rattle.step.specs.Steps.{clearOf, failingOf, setOne, setAll, recordNet, causeNumber, stepOf, stepped, answeredOf};
+ghost use Rattle.step.specs.Steps.{clearOf, failingOf, setOne, setAll, recordNet, causeNumber, causeBy, causePlace, stoppedAt, stepOf, stepped, answeredOf};
 
 // What stops a step: there is no such event, or the lowest condition that is lacking or in contact.
 pub enum Cause {
@@ -159,12 +160,41 @@ fn cause_number(cause: Cause) -> u8
     }
 }
 
-// A step's answer as that of a call: a value where it goes, else the refusal at a place.
-pub fn answered(step: Step, place: usize, value: usize) -> Judged
-    ensures { λ r. ⌜ r ≡ answeredOf step place value ⌝ }
+// The condition that stops a step, if one does.
+fn cause_by(cause: Cause) -> By
+    ensures { λ r. ⌜ r ≡ causeBy cause ⌝ }
+{
+    match cause {
+        Cause::Unknown => By::Nothing,
+        Cause::Lacks(b) => By::Table(b),
+        Cause::Meets(b) => By::Table(b),
+    }
+}
+
+// The place of a firing that is no step of a run: that condition, and 0 where there is none.
+fn cause_place(cause: Cause) -> usize
+    ensures { λ r. ⌜ r ≡ causePlace cause ⌝ }
+{
+    match cause {
+        Cause::Unknown => 0,
+        Cause::Lacks(b) => b.0 as usize,
+        Cause::Meets(b) => b.0 as usize,
+    }
+}
+
+// What stops a step as the refusal at a place.
+pub fn stopped_at(cause: Cause, place: usize) -> Judged
+    ensures { λ r. ⌜ r ≡ stoppedAt cause place ⌝ }
+{
+    refusal::refused_by(cause_number(cause), place, cause_by(cause))
+}
+
+// A firing's answer as that of a call: a value where it goes, else the refusal at the condition.
+pub fn answered(step: Step, value: usize) -> Judged
+    ensures { λ r. ⌜ r ≡ answeredOf step value ⌝ }
 {
     match step {
         Step::Goes => Judged::Fine(value),
-        Step::Stops(cause) => refusal::refused(cause_number(cause), place),
+        Step::Stops(cause) => stopped_at(cause, cause_place(cause)),
     }
 }

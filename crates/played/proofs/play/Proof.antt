@@ -34,7 +34,7 @@ step-event-requires c κs =
 
 returns-2 : tie.Need-returns-2 Inv-loop μ-loop
 returns-2 c =
-    step-ends _ _ _ _ _ _ (c .before .before .before .before .before .before .before .before .before .loop .inv) (c .before .before .before .before .before .before .before .before .loop-test .taken) _ (c .before .before .before .before .before .step-event .ensures .0) _ (c .before .before .before .before .before .step-event .ensures .1) (omega (arith, c .before .before .before .before .before .before .before .before .before .before .before .before .before .before .before .pre .room .0, conditions-are-all _ _ (c .before .before .before .before .before .before .before .before .before .before .before .before .before .before .before .pre .judged))) (c .before .before .before .before .before .before .before .before .before .before .if1 .left) _ (c .before .enum-told2 .given .1) _ (c .answered .ensures)
+    step-ends _ _ _ _ _ _ (c .before .before .before .before .before .before .before .before .before .before .loop .inv) (c .before .before .before .before .before .before .before .before .before .loop-test .taken) _ (c .before .before .before .before .before .before .step-event .ensures .0) _ (c .before .before .before .before .before .before .step-event .ensures .1) (omega (arith, c .before .before .before .before .before .before .before .before .before .before .before .before .before .before .before .before .pre .room .0, conditions-are-all _ _ (c .before .before .before .before .before .before .before .before .before .before .before .before .before .before .before .before .pre .judged))) (c .before .before .before .before .before .before .before .before .before .before .before .if1 .left) _ (c .before .before .step .given .1) _ (c .stopped-at .ensures)
 
 loop-again : tie.Need-loop-again Inv-loop μ-loop
 loop-again c =
@@ -57,10 +57,10 @@ play-spec =
     (λ c. search needs)
     step-event-requires
     (λ c. search needs)
-    (λ c. search needs)
     (λ c κs. search needs)
     (λ c. search needs)
     returns-2
+    (λ c. search needs)
     (λ c. search needs)
     (λ c. search needs)
     loop-again

@@ -10,7 +10,7 @@ returns c =
 
 returns-2 : tie.Need-returns-2
 returns-2 c =
-    c .refused .ensures ∙ rw (c .before .before .before .step .given .1, c .before .cause-number .ensures)
+    c .stopped-at .ensures ∙ rw (c .before .before .before .step .given .1, c .before .cause-place .ensures)
 
 pub answered-spec : {M : Type 1} → statement M
 answered-spec =
