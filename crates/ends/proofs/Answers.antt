@@ -12,7 +12,7 @@ use Rattle.model.specs.Net.{Net, Sound, Marking, begin}
 use Rattle.model.specs.Lent.{bytes, marking}
 use Rattle.model.specs.Runs.{end, opening, after, replay}
 use Rattle.model.specs.Unfolding.{basic}
-use Rattle.model.specs.Across.{Refusal, Answer, run, refusal, unless, stuck, mostSteps, lift, readBack, projecting, project}
+use Rattle.model.specs.Across.{ofUnfolding, Refusal, Answer, run, refusal, unless, stuck, mostSteps, lift, readBack, projecting, project}
 use Rattle.model.proofs.Answers.{run-projecting}
 use Rattle.model.proofs.Copies.{marking-after, seen-after}
 use Rattle.model.proofs.Demands.{lift-project, lift-most}
@@ -85,7 +85,7 @@ module _ (s w out : List ℕ) where
       pub replay-stopped : {x : declared.Refusal} → p ≡ Refused x → (p ≡ unfoldedReplayOf s w (length out)) × (out ≡ unfoldedReplayedOf s w out)
       unfolding projecting
       replay-stopped z =
-          left-alone p (stuck-ended (stuck (replay (basic n) 0 (opening (basic n)) w)) (run (readBack n w)) (length w) (basic n .conditions) (length out) p (t .told) z ∙ sym goes) z
+          left-alone p (stuck-ended (stuck ofUnfolding (replay (basic n) 0 (opening (basic n)) w)) (run (readBack n w)) (length w) (basic n .conditions) (length out) p (t .told) z ∙ sym goes) z
 
       pub replay-ends : (x : ℕ) → p ≡ Fine x → (q : Judged) (new : List ℕ) → q ≡ fitting (basic n .conditions) (length out)
           → new ≡ written q (copiesOf n (marking l) (marking seen)) out → (q ≡ unfoldedReplayOf s w (length out)) × (new ≡ unfoldedReplayedOf s w out)

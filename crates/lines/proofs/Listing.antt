@@ -9,7 +9,7 @@ use Rattle.model.specs.Runs.{runs, end, opening, replay}
 use Rattle.model.specs.Unfolding.{basic}
 use mathlib.Core.Option.{none}
 use Rattle.model.specs.Across as across
-use Rattle.model.specs.Across.{numberOf, placeOf, Answer, run, refusal, unless, stuck, mostSteps, mostUnfolded, tooLong, unfoldingRefused, earliest, repeated, again, lifted, lifting, lift}
+use Rattle.model.specs.Across.{ofTable, numberOf, placeOf, Answer, run, refusal, unless, stuck, mostSteps, mostUnfolded, tooLong, unfoldingRefused, earliest, repeated, again, lifted, lifting, lift}
 use Rattle.model.proofs.Answers.{unless-run, not-stuck}
 use Rattle.model.proofs.Limits.{unfolds-exactly, within-exactly}
 use Rattle.model.proofs.Demands.{lift-project, lift-lifts, lift-length, lift-most}
@@ -50,8 +50,8 @@ module _ (n : Net) (r w : List ℕ) (a : lift n r ≡ run w) where
   is-run : T (runs n (begin n) r)
   unfolding lifting opening
   is-run =
-      not-stuck n 0 (opening n) r
-      (unless-run (stuck (replay n 0 (opening n) r)) (unless (again (repeated n (earliest n) 0 (opening n) r)) (run (lifted n (earliest n) (opening n) r))) w (after-limits .1) .0)
+      not-stuck ofTable n 0 (opening n) r
+      (unless-run (stuck ofTable (replay n 0 (opening n) r)) (unless (again (repeated n (earliest n) 0 (opening n) r)) (run (lifted n (earliest n) (opening n) r))) w (after-limits .1) .0)
 
 -- A run that lifts is opened; one that does not is refused as its lift is.
 module _ (s r : List ℕ) (n : ℕ) (j : judgeOf s ≡ Fine n) where

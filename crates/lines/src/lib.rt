@@ -8,7 +8,7 @@ ghost use lib.ListN.{length, getD};
 ghost use Rattle.model.specs.Across.{mostUnfolded};
 ghost use Rattle.spelling.specs.Puts.{Puts};
 ghost use Rattle.table.specs.Decoded.{netOf};
-ghost use Rattle.refusal.specs.Answer.{numberOf, placeOf};
+ghost use Rattle.refusal.specs.Answer.{numberOf, placeOf, byOf, conditionOf};
 ghost use Rattle.listing.specs.Text.{newline, refusedLine};
 ghost use Rattle.listing.specs.Calls.{textOf};
 ghost use Rattle.lines.specs.Places.{stepFrom, moreFrom, nextAt, goesOn, fired, shownAt, stepText, textAt, writtenAt};
@@ -191,8 +191,9 @@ pub fn write<'a>(
 // The line of a refusal written to an output that has room for it.
 pub fn write_refused(answer: Judged, out: &mut [u8]) -> usize
     requires { ⌜ mostBytes ≤ length (now out) ⌝ }
-    ensures { λ r. ⌜ Puts (refusedLine (numberOf answer) (placeOf answer)) (now (out .entry)) r (now (out .exit)) ⌝ }
+    ensures { λ r. ⌜ Puts (refusedLine (numberOf answer) (placeOf answer) (conditionOf (byOf answer))) (now (out .entry)) r (now (out .exit)) ⌝ }
 {
     let number = refusal::number_of(answer) as usize;
-    put(Piece::Refused(number, refusal::place_of(answer)), b"", out)
+    let by = refusal::by_of(answer);
+    put(Piece::Refused(number, refusal::place_of(answer), by), b"", out)
 }

@@ -6,7 +6,7 @@ use lib.ListN.{length}
 use Rattle.model.specs.Lent.{marking}
 use Rattle.model.specs.Across.{mostUnfolded}
 use Rattle.refusal.specs.declared.Judged.{Judged}
-use Rattle.refusal.specs.Answer.{need, andThen, fitting}
+use Rattle.refusal.specs.Answer.{conditionOf, need, andThen, fitting}
 use Rattle.table.specs.Walk.{judgeOf}
 use Rattle.runs.specs.Runs.{runKind, readAnswer}
 use Rattle.listing.specs.declared.Piece.{Piece}
@@ -49,7 +49,7 @@ textOf Start l = startLine (heldIn l)
 textOf (Step step event unfolded) l = stepLine step event unfolded (heldIn l)
 textOf End l = endWords ++ firstPiece (heldIn l)
 textOf (More from) l = morePiece l from
-textOf (Refused number place) l = refusedLine number place
+textOf (Refused number place by) l = refusedLine number place (conditionOf by)
 
 -- A piece over a lent marking answers with its bytes: 18 where the marking is longer than any, then 16 (01, Refusal numbers).
 unfoldable pub pieceOf : Piece → List ℕ → ℕ → Judged

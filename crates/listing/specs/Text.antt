@@ -1,4 +1,5 @@
 -- The text of a listing as bytes: numbers, lists and lines.
+use mathlib.Core.Option.{Option, none, some}
 use mathlib.Core.List.{List, [], _∷_, _++_}
 use Prim.Native.Nat.{ℕ}
 use Rattle.lists.specs.Lists.{keep, count, spread}
@@ -48,6 +49,9 @@ refusedWord = 114 ∷ 101 ∷ 102 ∷ 117 ∷ 115 ∷ 101 ∷ 100 ∷ 32 ∷ []
 abbrev pub atWord : List ℕ
 atWord = 32 ∷ 97 ∷ 116 ∷ 32 ∷ []
 
+abbrev pub byWord : List ℕ
+byWord = 32 ∷ 98 ∷ 121 ∷ 32 ∷ []
+
 -- The line of the start, by the conditions that hold there (01, Nets to test with: Listing).
 unfoldable pub startLine : List ℕ → List ℕ
 startLine held = startWord ++ listed held ++ (newline ∷ [])
@@ -61,6 +65,11 @@ stepLine step event unfolded held =
 unfoldable pub endLine : List ℕ → List ℕ
 endLine held = endWords ++ listed held ++ (newline ∷ [])
 
--- The line of a refusal, which then stands alone (01, Nets to test with: Listing).
-unfoldable pub refusedLine : ℕ → ℕ → List ℕ
-refusedLine number place = refusedWord ++ decimal number ++ atWord ++ decimal place ++ (newline ∷ [])
+-- The words for the condition that stopped a step, none where there is none (02, No. 2).
+unfoldable pub byWords : Option ℕ → List ℕ
+byWords none = []
+byWords (some b) = byWord ++ decimal b
+
+-- The line of a refusal, which then stands alone, with the condition that stopped a step (01, Nets to test with: Listing; 02, No. 2).
+unfoldable pub refusedLine : ℕ → ℕ → Option ℕ → List ℕ
+refusedLine number place by = refusedWord ++ decimal number ++ atWord ++ decimal place ++ byWords by ++ (newline ∷ [])

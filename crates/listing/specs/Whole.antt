@@ -7,6 +7,7 @@ use Rattle.model.specs.Unfolding.{basic}
 use Rattle.model.specs.Across as across
 use Rattle.refusal.specs.declared.Judged.{Judged}
 use Rattle.refusal.specs.declared.Judged.the-variants.{Fine, Refused}
+use Rattle.refusal.specs.Answer.{conditionOf}
 use Rattle.table.specs.Decoded.{netOf}
 use Rattle.runs.specs.Runs.{runOf}
 use Rattle.listing.specs.Text.{holding, startLine, stepLine, endLine, refusedLine}
@@ -29,11 +30,11 @@ linesOf n r w =
 -- The lines of a run with its lift, or the lift's own refusal (01, Nets to test with: Listing).
 unfoldable pub liftedLines : Net → List ℕ → across.Answer → List ℕ
 liftedLines n r (across.run w) = linesOf n r w
-liftedLines n r (across.refusal x) = refusedLine (across.numberOf x) (across.placeOf x)
+liftedLines n r (across.refusal x) = refusedLine (across.numberOf x) (across.placeOf x) (across.byOf x)
 
 -- The refusal of a file, or else the lines (01, Nets to test with: Listing).
 unfoldable pub judgedLines : Judged → List ℕ → List ℕ
-judgedLines (Refused x) lines = refusedLine (x .number) (x .place)
+judgedLines (Refused x) lines = refusedLine (x .number) (x .place) (conditionOf (x .by))
 judgedLines (Fine steps) lines = lines
 
 -- The listing of a table's file and a run's (01, Nets to test with: Listing).

@@ -1,16 +1,18 @@
 // The text of a listing, written into lent bytes piece by piece: a piece is first put into too few bytes, which measures it.
+use refusal::By;
 use refusal::Judged;
 ghost use mathlib.Core.Path.{_≡_};
+ghost use mathlib.Core.Option.{some};
 ghost use mathlib.Core.List.{[], _∷_, _++_};
 ghost use Prim.Native.Nat.{_+_, _-_, _*_, _≤_, _<_};
 ghost use lib.ListN.{length};
 ghost use Rattle.model.specs.Lent.{marking};
 ghost use Rattle.model.specs.Across.{mostUnfolded};
-ghost use Rattle.refusal.specs.Answer.{written};
+ghost use Rattle.refusal.specs.Answer.{conditionOf, written};
 ghost use Rattle.runs.specs.Runs.{runOf};
 ghost use Rattle.spelling.specs.Decimal.{decimal};
 ghost use Rattle.spelling.specs.Puts.{farthest, Put};
-ghost use Rattle.listing.specs.Text.{space, newline, commas, listed, holding, endWords, startLine, stepLine, refusedLine};
+ghost use Rattle.listing.specs.Text.{space, newline, commas, listed, holding, endWords, startLine, stepLine, byWords, refusedLine};
 ghost use Rattle.listing.specs.Calls.{heldIn, firstIn, nextOf, firstPiece, textOf, pieceOf, filesOf};
 
 // What can be written at once: the line of the start, of a step, or of a refusal; the begin of the line of the unfolded end; or
@@ -20,7 +22,7 @@ pub enum Piece {
     Step(usize, usize, usize),
     End,
     More(usize),
-    Refused(usize, usize),
+    Refused(usize, usize, By),
 }
 
 // The most bytes of a table's file.
@@ -148,14 +150,36 @@ fn put_end(out: &mut [u8], state: &[u8]) -> usize
     put_first(out, next, state, first)
 }
 
+// The words for a condition that stopped a step, by its number.
+fn put_condition(out: &mut [u8], at: usize, b: usize) -> usize
+    requires { ⌜ at + 26 ≤ farthest ⌝ }
+    ensures { λ r. ⌜ Put (now (out .entry)) at (byWords (some b)) r (now (out .exit)) ⌝ }
+{
+    let from = spelling::put_text(out, at, b" by ");
+    spelling::put_number(out, from, b)
+}
+
+// The words for what stopped a step, none where nothing did.
+fn put_by(out: &mut [u8], at: usize, by: By) -> usize
+    requires { ⌜ at + 26 ≤ farthest ⌝ }
+    ensures { λ r. ⌜ Put (now (out .entry)) at (byWords (conditionOf by)) r (now (out .exit)) ⌝ }
+{
+    match by {
+        By::Nothing => at,
+        By::Table(b) => put_condition(out, at, b.0 as usize),
+        By::Unfolded(b) => put_condition(out, at, b.0 as usize),
+    }
+}
+
 // The line of a refusal.
-fn put_refused(out: &mut [u8], number: usize, place: usize) -> usize
-    ensures { λ r. ⌜ Put (now (out .entry)) 0 (refusedLine number place) r (now (out .exit)) ⌝ }
+fn put_refused(out: &mut [u8], number: usize, place: usize, by: By) -> usize
+    ensures { λ r. ⌜ Put (now (out .entry)) 0 (refusedLine number place (conditionOf by)) r (now (out .exit)) ⌝ }
 {
     let first = spelling::put_text(out, 0, b"refused ");
     let second = spelling::put_number(out, first, number);
     let third = spelling::put_text(out, second, b" at ");
-    let end = spelling::put_number(out, third, place);
+    let fourth = spelling::put_number(out, third, place);
+    let end = put_by(out, fourth, by);
     spelling::put(out, end, b'\n')
 }
 
@@ -169,7 +193,7 @@ fn put_piece(out: &mut [u8], piece: Piece, state: &[u8]) -> usize
         Piece::Step(step, event, unfolded) => put_step(out, step, event, unfolded, state),
         Piece::End => put_end(out, state),
         Piece::More(from) => put_more(out, 0, state, from, next_piece(state, from)),
-        Piece::Refused(number, place) => put_refused(out, number, place),
+        Piece::Refused(number, place, by) => put_refused(out, number, place, by),
     }
 }
 

@@ -12,7 +12,7 @@ use Rattle.model.specs.Net.{Net, begin, Marking, fire}
 use Rattle.model.specs.Runs.{opening, replay, runs}
 use Rattle.model.specs.Unfolding.{basic, origin}
 use Rattle.model.specs.Numbering.{size}
-use Rattle.model.specs.Across.{Refusal, Answer, run, unless, stuck, tooLong, unfoldingRefused, readBack, projecting, project}
+use Rattle.model.specs.Across.{ofUnfolding, Refusal, Answer, run, unless, stuck, tooLong, unfoldingRefused, readBack, projecting, project}
 use Rattle.model.proofs.Firing.{runs-event}
 use Rattle.model.proofs.Answers.{unless-run, projecting-run, run-projecting}
 use Rattle.model.proofs.Project.{length-back}
@@ -87,7 +87,7 @@ module _ (s w out : List ℕ) where
       pub told-stopped : {x : declared.Refusal} → p ≡ Refused x → (p ≡ projectOf s w (length out)) × (out ≡ projectedOf s w out)
       unfolding projecting
       told-stopped z =
-          left-alone p (stuck-fitted (stuck (replay (basic n) 0 (opening (basic n)) w)) (run (readBack n w)) (length w) (length out) p (t .told) z ∙ sym goes) z
+          left-alone p (stuck-fitted (stuck ofUnfolding (replay (basic n) 0 (opening (basic n)) w)) (run (readBack n w)) (length w) (length out) p (t .told) z ∙ sym goes) z
 
       module _ (v : ℕ) (z : p ≡ Fine v) where
         pub reading : (ms us bases before : List ℕ) → Ready s (length w) ms us bases before → Reading before m w

@@ -14,7 +14,7 @@ use Rattle.records.specs.Records.{flags, prePart, postPart}
 use Rattle.model.specs.Net.{Net, begin, fire, Stop, stopNumber, stopping}
 use Rattle.model.specs.Runs.{opening, after, runs, replay}
 use Rattle.model.specs.Unfolding.{basic}
-use Rattle.model.specs.Across.{stopped, stuck, mostSteps, readBack}
+use Rattle.model.specs.Across.{ofUnfolding, stopped, stuck, mostSteps, readBack}
 use Rattle.model.specs.Lent.{bytes, marking}
 use Rattle.model.proofs.Lent.{bytes-marking, length-bytes, zeros-say, begun-marking}
 use Rattle.model.proofs.Replay.{stops-replay}
@@ -89,7 +89,7 @@ module _ (n : Net) (w : List ℕ) (k : ℕ) (state seen places kept : List ℕ) 
   unfolding opening
   stops-at h x o answer a l m =
       let v = some-stop (stopping (basic n) (unfoldedAt n w k) (getD w k 0)) x o in
-      let stuck-is : stuck (replay (basic n) 0 (opening (basic n)) w) ≡ some (stopped (v .0) k)
+      let stuck-is : stuck ofUnfolding (replay (basic n) 0 (opening (basic n)) w) ≡ some (stopped (v .0) k)
       = ap stuck (stops-replay (basic n) 0 (opening (basic n)) w (v .0) k record {
         before = take k w;
         event = getD w k 0;
@@ -119,7 +119,7 @@ module _ (n : Net) (w : List ℕ) (k : ℕ) (state seen places kept : List ℕ) 
       let all : k ≡ length w = omega (arith, c .upto) in
       let whole = subst (λ (y : List ℕ). T (runs (basic n) (begin (basic n)) y)) (take-all k w h) (c .plays) in
       record {
-        told = rw (stuck-none (basic n) 0 (opening (basic n)) w whole) refl;
+        told = rw (stuck-none ofUnfolding (basic n) 0 (opening (basic n)) w whole) refl;
         plays = λ y f. whole;
         lents = λ y f. (c .lents ∙ ap (λ (x : ℕ). bytes x (marking state)) (c .long), c .noted ∙ ap (λ (x : ℕ). bytes x (marking seen)) (c .wide));
         here = λ y f. c .here ∙ ap (λ (i : ℕ). stateAt n w i .marking) all;
