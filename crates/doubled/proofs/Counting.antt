@@ -2,13 +2,13 @@
 use mathlib.Core.Path.{_≡_, refl, ap}
 use mathlib.Core.Bool.{Bool, true, false, not, _&&_, _||_, cond}
 use mathlib.Core.List.{List, [], _∷_, _++_, map}
-use Prim.Native.Nat.{ℕ, zero, suc, _+_, _<_}
+use Prim.Native.Nat.{ℕ, suc, _+_, _<_}
 use borrow.Author.Tests.{ne-eqb}
-use lib.Dec.{T, eqb, eqb→eq, eqb-refl, leb, le→leb}
+use lib.Dec.{T, eqb, eqb→eq, eqb-refl, leb}
 use native.Mathlib.Nat.{zero-add}
 use native.Mathlib.Omega.{arith}
-use Rattle.lists.specs.Lists.{mem, ascending-from, ascending, count}
-use Rattle.lists.proofs.Bools.{T-of, iff, and-right, and-both}
+use Rattle.lists.specs.Lists.{mem, ascending-from, ascending}
+use Rattle.lists.proofs.Bools.{T-of, iff, and-right}
 use Rattle.lists.proofs.Members.{mem-in, mem-keep}
 use Rattle.lists.proofs.Distinct.{ascending-least, ascending-keep}
 use Rattle.model.specs.Net.{Net}
@@ -49,10 +49,6 @@ times-once i k (x ∷ l) t = go (eqb k x) refl (times-once (suc x) k l rest)
     go : (c : Bool) → eqb k x ≡ c → times k l ≡ token (mem k l) → cond c (suc (times k l)) (times k l) ≡ token (c || mem k l)
     go true e ih = ap suc (times-none k l (later (eqb→eq k x (T-of (eqb k x) e))))
     go false e ih = ih
-
-pub count-ascends : (k c : ℕ) → T (ascending-from k (count k c))
-count-ascends k zero = tt
-count-ascends k (suc c) = and-both (leb k k) (ascending-from (suc k) (count (suc k) c)) (le→leb k k (omega arith)) (count-ascends (suc k) c)
 
 pub without-ascends : (l other : List ℕ) → T (ascending l) → T (ascending (without l other))
 unfolding without

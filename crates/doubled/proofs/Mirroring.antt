@@ -13,7 +13,8 @@ use Rattle.model.specs.Net.{Net, Sound, Marking, begin, free, concession, can, 
 use Rattle.model.proofs.Firing.{can-event, can-concession, free-pre, pre-holds, unblocked, concession-intro}
 use Rattle.doubled.specs.Plain.{Tokens, times, initially, enabled, moved}
 use Rattle.doubled.specs.Doubling.{without, second, doubled, token, Mirrors, StepsAlike}
-use Rattle.doubled.proofs.Counting.{count-ascends, without-ascends, mem-without, first-times, second-times}
+use Rattle.lists.proofs.Distinct.{count-ascends}
+use Rattle.doubled.proofs.Counting.{without-ascends, mem-without, first-times, second-times}
 
 -- ---- one token or none
 

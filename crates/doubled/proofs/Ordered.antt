@@ -13,7 +13,8 @@ use Rattle.model.specs.Net.{Net, Sound}
 use Rattle.model.specs.Unfolding.{basic}
 use Rattle.model.proofs.Sets.{basic-sound}
 use Rattle.doubled.specs.Doubling.{without, second, doubled}
-use Rattle.doubled.proofs.Counting.{count-ascends, without-ascends, mem-without}
+use Rattle.lists.proofs.Distinct.{count-ascends}
+use Rattle.doubled.proofs.Counting.{without-ascends, mem-without}
 
 module _ (n : Net) where
   abbrev c : ℕ

@@ -56,6 +56,11 @@ ascending-least k (x ∷ xs) t b i = go (List·Memᴰ·cases-cons i) (λ j. asce
     go (inl e) ih = omega (arith, low)
     go (inr j) ih = omega (arith, low, ih j)
 
+-- numbers that are counted ascend
+pub count-ascends : (k c : ℕ) → T (ascending-from k (count k c))
+count-ascends k zero = tt
+count-ascends k (suc c) = and-both (leb k k) (ascending-from (suc k) (count (suc k) c)) (le→leb k k (omega arith)) (count-ascends (suc k) c)
+
 -- it ascends from each lower number too
 pub ascending-lower : (j k : ℕ) → j ≤ k → (l : List ℕ) → T (ascending-from k l) → T (ascending-from j l)
 ascending-lower j k h [] t = tt

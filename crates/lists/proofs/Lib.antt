@@ -7,3 +7,4 @@ pub mod Positions
 pub mod Products
 pub mod Stored
 pub mod Distinct
+pub mod Lowest

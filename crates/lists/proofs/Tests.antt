@@ -1,15 +1,13 @@
 -- Tests over the members of a list: what every member passes, what some member passes, and the first that fails.
-use mathlib.Core.Path.{_≡_, refl, sym, _∙_, ap, subst}
+use mathlib.Core.Path.{_≡_, refl, sym, subst}
 use mathlib.Core.Bool.{Bool, true, false, _&&_, _||_, cond}
 use mathlib.Core.Option.{some}
 use mathlib.Core.List.{List, [], _∷_}
-use Prim.Native.Nat.{ℕ, zero, suc, _+_, _≤_, _<_}
-use borrow.Author.Tests.{eqb-false}
-use mathlib.Core.Logic.{_≢_}
+use Prim.Native.Nat.{ℕ, suc, _+_, _≤_, _<_}
 use native.Mathlib.Omega.{arith}
 use lib.Dec.{T, eqb, eqb→eq, eqb-refl, leb, leb→le, ltb, ltb→lt, lt→ltb}
 use lib.ListN.{length}
-use Rattle.lists.specs.Lists.{mem, all, any, ascending-from, ascending, fits, _⇒_, failing, nothing, count}
+use Rattle.lists.specs.Lists.{mem, all, any, ascending-from, ascending, fits, _⇒_, failing, nothing}
 use Rattle.lists.proofs.Bools.{T-of, and-left, and-right, and-both, or-left, or-right, or-cases, imp-elim}
 
 -- ---- all
@@ -52,50 +50,6 @@ failing-at f l t k h = all-at f l (subst T (nothing-fails f l) t) k h
 
 pub failing-of : (f : ℕ → Bool) (l : List ℕ) → ((k : ℕ) → T (mem k l) → T (f k)) → T (nothing (failing f l))
 failing-of f l h = subst T (sym (nothing-fails f l)) (all-of f l h)
-
--- ---- the lowest number that fails
-
-pub record Lowest (f : ℕ → Bool) (k c x : ℕ) : Type 0 where
-  pub at-least : k ≤ x
-  pub below : x < k + c
-  pub fails : f x ≡ false
-  pub first : (y : ℕ) → k ≤ y → y < x → f y ≡ true
-
-pub failing-lowest : (f : ℕ → Bool) (k c x : ℕ) → failing f (count k c) ≡ some x → Lowest f k c x
-failing-lowest f k zero x h = absurd (let z : _≡_ {A = ℕ} 0 1 = cc in omega arith)
-failing-lowest f k (suc c) x h = go (f k) refl h (failing-lowest f (suc k) c x)
-  where
-    next : f k ≡ true → Lowest f (suc k) c x → Lowest f k (suc c) x
-    next q l =
-        record {
-          at-least = omega (arith, l .at-least);
-          below = omega (arith, l .below);
-          fails = l .fails;
-          first = λ y p r. either y (eqb y k) refl p r;
-        }
-      where
-        either : (y : ℕ) (b : Bool) → eqb y k ≡ b → k ≤ y → y < x → f y ≡ true
-        either y true e p r = ap f (eqb→eq y k (T-of (eqb y k) e)) ∙ q
-        either y false e p r = let ne : y ≢ k = eqb-false y k e in l .first y (omega (arith, ne)) r
-
-    go : (b : Bool) → f k ≡ b → cond b (failing f (count (suc k) c)) (some k) ≡ some x
-        → (failing f (count (suc k) c) ≡ some x → Lowest f (suc k) c x) → Lowest f k (suc c) x
-    go true q h ih = next q (ih h)
-    go false q h ih =
-        let e : k ≡ x = cc in
-        record { at-least = omega arith; below = omega arith; fails = subst (λ (y : ℕ). f y ≡ false) e q; first = λ y p r. absurd (omega arith) }
-
-pub lowest-failing : (f : ℕ → Bool) (k c x : ℕ) → Lowest f k c x → failing f (count k c) ≡ some x
-lowest-failing f k zero x l = absurd (let a = l .at-least in let b = l .below in omega arith)
-lowest-failing f k (suc c) x l = go (eqb k x) refl (lowest-failing f (suc k) c x)
-  where
-    go : (b : Bool) → eqb k x ≡ b → (Lowest f (suc k) c x → failing f (count (suc k) c) ≡ some x) → cond (f k) (failing f (count (suc k) c)) (some k) ≡ some x
-    go true e ih = let q : k ≡ x = eqb→eq k x (T-of (eqb k x) e) in rw (subst (λ (y : ℕ). f y ≡ false) (sym q) (l .fails)) (ap some q)
-    go false e ih =
-        let ne : k ≢ x = eqb-false k x e in
-        let a = l .at-least in
-        rw (l .first k (omega arith) (omega (arith, ne)))
-        (ih (record { at-least = omega (arith, ne); below = omega (arith, l .below); fails = l .fails; first = λ y p r. l .first y (omega arith) r }))
 
 -- ---- a list that ascends below a number
 

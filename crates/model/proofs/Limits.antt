@@ -9,12 +9,15 @@ use Prim.Native.Nat.{ℕ, _≤_, _<_, zero-le}
 use borrow.Author.Tests.{le-leb, leb-true}
 use lib.Dec.{T, ltb, lt→ltb, leb}
 use lib.ListN.{length}
+use native.Mathlib.Decide.{decLe}
 use native.Mathlib.Omega.{arith}
-use Rattle.lists.specs.Lists.{nothing, count}
+use Rattle.lists.specs.Lists.{ascending, nothing, count}
 use Rattle.lists.proofs.Bools.{is-true, T-of, not-true, not-out, not-in, not-not, and-left, and-right, and-both}
-use Rattle.lists.proofs.Members.{in-mem, count-in}
-use Rattle.lists.proofs.Tests.{failing-at, failing-lowest, lowest-failing}
+use Rattle.lists.proofs.Members.{mem-in, in-mem, count-in, count-out}
+use Rattle.lists.proofs.Tests.{failing-at}
 use Rattle.lists.proofs.Places.{at-lt, at-getD}
+use Rattle.lists.proofs.Distinct.{count-ascends}
+use Rattle.lists.proofs.Lowest.{failing-lowest, lowest-failing}
 use Rattle.model.specs.Net.{Net, Sound}
 use Rattle.model.specs.Runs.{atStart}
 use Rattle.model.specs.Unfolding.{markers, UnfoldedEvent, reads, unfoldedEvents, origin, basic, idle}
@@ -37,26 +40,33 @@ module _ (n : Net) where
   abbrev touching : ℕ → Bool
   touching e = not (idle n e)
 
+  all-events : T (ascending (count 0 (n .events)))
+  all-events = count-ascends 0 (n .events)
+
   lowest-found : (e : ℕ) → lowestIdle n ≡ some e → Idlest n e
   unfolding lowestIdle
   lowest-found e h =
-      let l = failing-lowest touching 0 (n .events) e h in
+      let l = failing-lowest touching (count 0 (n .events)) all-events e h in
+      let r = count-out e 0 (n .events) (mem-in e (count 0 (n .events)) (l .inside)) in
       record {
-        event = omega (arith, l .below);
+        event = omega arith;
         idle-here = not-not (idle n e) (λ f. not-true (touching e) (l .fails) (not-in (idle n e) f));
-        lowest = λ f r t. not-out (idle n f) (T-of (touching f) (l .first f zero-le r)) t;
+        lowest = λ f h t. let low = l .least f (in-mem (count-in f 0 (n .events) zero-le (omega arith))) (ap not (is-true (idle n f) t)) in omega arith;
       }
 
   found-lowest : (e : ℕ) → Idlest n e → lowestIdle n ≡ some e
   unfolding lowestIdle
   found-lowest e i =
-      lowest-failing touching 0 (n .events) e
+      lowest-failing touching (count 0 (n .events)) all-events e
       (record {
-        at-least = zero-le;
-        below = omega (arith, i .event);
+        inside = in-mem (count-in e 0 (n .events) zero-le (omega (arith, i .event)));
         fails = ap not (is-true (idle n e) (i .idle-here));
-        first = λ y p r. is-true (touching y) (not-in (idle n y) (i .lowest y r));
+        least = λ f t q. not-below f q (decLe e f);
       })
+    where
+      not-below : (f : ℕ) → touching f ≡ false → Dec (e ≤ f) → e ≤ f
+      not-below f q (yes h) = h
+      not-below f q (no h) = absurd (i .lowest f (omega arith) (not-not (idle n f) (λ g. not-true (touching f) q (not-in (idle n f) g))))
 
   -- each event touches something once unfolded
   abbrev pub Touching : Type 0
