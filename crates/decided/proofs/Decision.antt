@@ -1,26 +1,56 @@
--- What is told from the table's marking and the events that have occurred is what stops the unfolded event at the unfolded marking.
+-- What is told from the table's marking and the events that have occurred is what stops the unfolded event at the unfolded marking, down
+-- to the unfolded condition.
 use mathlib.Core.Path.{_≡_, refl, sym, _∙_, ap, subst}
 use mathlib.Core.Bool.{Bool, true, false, not, _&&_, _||_, cond, and-true}
 use mathlib.Core.Option.{Option, none, some}
 use mathlib.Core.List.{List, [], _∷_, map, List·Memᴰ·cases-cons, Memᴰ·of-map}
 use mathlib.Core.Logic.{inl, inr}
-use Prim.Native.Nat.{ℕ, _<_}
+use Prim.Native.Nat.{ℕ, _≤_, _<_}
 use native.Mathlib.Omega.{arith}
 use lib.Dec.{T, eqb, ltb, eqb→eq, eqb-refl}
 use lib.ListN.{getElem?}
-use Rattle.lists.specs.Lists.{mem, all, failing, nothing, keep, count, _∈_}
-use Rattle.lists.proofs.Bools.{iff, T-of, is-true, and-left, and-right, and-both, or-right, or-cases, imp-or, or-imp}
-use Rattle.lists.proofs.Tests.{all-at, all-of, failing-at, failing-of}
+use Rattle.lists.specs.Lists.{mem, all, ascending, failing, nothing, keep, count, _∈_}
+use Rattle.lists.proofs.Bools.{T-of, is-true, is-false, not-true, and-left, and-right, and-both, or-right, or-cases}
+use Rattle.lists.proofs.Tests.{all-at, nothing-fails}
 use Rattle.lists.proofs.Members.{in-mem, mem-in, keep-in, keep-out, mem-keep}
-use Rattle.lists.proofs.Places.{in-at, place-of}
+use Rattle.lists.proofs.Places.{in-at, places-ascend}
+use Rattle.lists.proofs.Distinct.{count-ascends, ascending-keep}
+use Rattle.lists.proofs.Lowest.{failing-lowest, led, Leads, failing-led, first-place}
 use Rattle.model.specs.Net.{Net, Sound, Marking, lacking, free, contact, firstStop, stopping}
 use Rattle.model.specs.Runs.{Marker, atStart, byEvent, State}
 use Rattle.model.specs.Unfolding.{sameMarker, UnfoldedCondition, ordinary, copy, markers, users, unfoldedConditions, unfoldedEvents, reads, picked, takes, puts, origin, basic}
+use Rattle.model.specs.Numbering.{conditionNumber}
 use Rattle.model.proofs.Laws.{marked}
-use Rattle.model.proofs.Firing.{free-pre}
-use Rattle.model.proofs.Unfolded.{Each, choices-each, sameMarker-refl, sameMarker-eq, event-marks, event-uses, ordinary-in, copy-in, kind-of, pair-of, colour-out, takes-at, puts-at, in-pre, in-post, free-ordinary, free-copy, origin-in}
+use Rattle.model.proofs.Unfolded.{Each, choices-each, sameMarker-refl, sameMarker-eq, event-marks, event-uses, ordinary-in, copy-in, kind-of, pair-of, colour-out, takes-at, puts-at, in-pre, in-post, origin-in}
+use Rattle.model.proofs.Numbers.{condition-at}
+use Rattle.model.proofs.Counts.{condition-back}
 use Rattle.model.proofs.Copies.{status, Copies}
-use Rattle.decided.specs.Decided.{Picks, hasMarked, ready, clear, stoppedBy, numberOfStop}
+use Rattle.decided.specs.Decided.{Picks, hasMarked, ready, givenBack, clear, stoppedBy, lackedCondition, metUser, metCondition, unfoldedStop}
+use Rattle.decided.proofs.Orders.{owner, user-below, in-order}
+
+-- ---- tests
+
+-- what fails of a test that is asked only where another passes, and what makes it fail
+neither : (a c : Bool) → (not a || c) ≡ false → T a × (c ≡ false)
+neither true c q = (tt, q)
+neither false c q = absurd (subst T q tt)
+
+both-fail : (a c : Bool) → T a → c ≡ false → (not a || c) ≡ false
+both-fail true c t q = q
+both-fail false c t q = absurd t
+
+and-between : (a m c : Bool) → (a && c) ≡ false → (a && (m && c)) ≡ false
+and-between true true c q = q
+and-between true false c q = refl
+and-between false m c q = refl
+
+-- where not every member passes, one is found
+some-fails : (f : ℕ → Bool) (l : List ℕ) → all f l ≡ false → failing f l ≡ some (metUser (failing f l))
+some-fails f l a = go (failing f l) (nothing-fails f l ∙ a)
+  where
+    go : (o : Option ℕ) → nothing o ≡ false → o ≡ some (metUser o)
+    go none z = absurd (subst T z tt)
+    go (some v) z = refl
 
 -- ---- a colour laid out by condition
 
@@ -60,10 +90,9 @@ pub user-reads : (n : Net) (b e : ℕ) → e ∈ users n b → T (mem b (n .prec
 unfolding users
 user-reads n b e i = keep-out (λ e. mem b (n .preconditions e)) (count 0 (n .events)) i .1
 
--- every unfolded condition is ordinary
-basic-plain : (n : Net) (k : ℕ) → basic n .persistent k ≡ false
-unfolding basic
-basic-plain n k = refl
+users-ascend : (n : Net) (b : ℕ) → T (ascending (users n b))
+unfolding users
+users-ascend n b = ascending-keep (λ e. mem b (n .preconditions e)) 0 (count 0 (n .events)) (count-ascends 0 (n .events))
 
 -- for a marker of a condition, to have marked it is to have occurred
 marked-is : (n : Net) (s : State) (k : Marker) (b : ℕ) → k ∈ markers n b → marked n s k b ≡ hasMarked n (s .seen) k b
@@ -114,38 +143,73 @@ module _ (n : Net) (d : Sound n) (s : State) (u : Marking) (i : Copies n s u) (j
   abbrev holds : ℕ → Bool
   holds b = ready n (s .marking) (s .seen) pick b
 
-  ready-to : T (nothing (lacking (basic n) u j)) → (b : ℕ) → T (mem b (n .preconditions e)) → T (holds b)
-  unfolding lacking takes status
-  ready-to t b q = go (n .persistent b) refl
-    where
-      taken : (k : ℕ) (p : UnfoldedCondition) → getElem? (unfoldedConditions n) k ≡ some p → T (takes n (origin n j) p) → T (status n s p)
-      taken k p a x = subst T (i .holding k p a) (failing-at u (basic n .preconditions j) t k (subst T (sym (takes-at n j k p a)) x))
+  abbrev lacked : ℕ → UnfoldedCondition
+  lacked b = lackedCondition n pick e b
 
-      go : (x : Bool) → n .persistent b ≡ x → T (cond x (hasMarked n (s .seen) (pick b) b) (s .marking b))
-      go false p = let r = place-of (ordinary-in n b (d .pre-in e b here q) p) in taken (r .0) (ordinary b) (r .1) q
+  lacked-owner : (b : ℕ) → owner (lacked b) ≡ b
+  lacked-owner b = go (n .persistent b)
+    where
+      go : (x : Bool) → owner (cond x (copy b (pick b) e) (ordinary b)) ≡ b
+      go true = refl
+      go false = refl
+
+  -- what is taken for a precondition holds exactly if the precondition is ready
+  record Takes (b : ℕ) (p : UnfoldedCondition) : Type 0 where
+    inside : p ∈ unfoldedConditions n
+    taken : T (takes n (origin n j) p)
+    same : status n s p ≡ holds b
+
+  lacked-takes : (b : ℕ) → T (mem b (n .preconditions e)) → Takes b (lacked b)
+  unfolding takes status
+  lacked-takes b t = go (n .persistent b) refl
+    where
+      go : (x : Bool) → n .persistent b ≡ x → Takes b (cond x (copy b (pick b) e) (ordinary b))
+      go false p = record { inside = ordinary-in n b (d .pre-in e b here t) p; taken = t; same = rw p }
       go true p =
-          let r = place-of (copy-in n b (pick b) e (d .pre-in e b here q) p (marks b q p) (event-uses n b e here q)) in
-          subst T (marked-is n s (pick b) b (marks b q p)) (taken (r .0) (copy b (pick b) e) (r .1) (takes-picked b q p))
+          record {
+            inside = copy-in n b (pick b) e (d .pre-in e b here t) p (marks b t p) (event-uses n b e here t);
+            taken = takes-picked b t p;
+            same = rw p (marked-is n s (pick b) b (marks b t p));
+          }
 
-  ready-back : ((b : ℕ) → T (mem b (n .preconditions e)) → T (holds b)) → T (nothing (lacking (basic n) u j))
-  unfolding lacking takes status
-  ready-back f =
-      failing-of u (basic n .preconditions j) (λ k t. let r = in-pre n j k t in subst T (sym (i .holding k (r .0) (r .1))) (held k (r .0) (r .1) (r .2)))
-    where
-      held : (k : ℕ) (p : UnfoldedCondition) → getElem? (unfoldedConditions n) k ≡ some p → T (takes n (origin n j) p) → T (status n s p)
-      held k (ordinary b) a q = rw (kind-of n (ordinary b) (in-at (unfoldedConditions n) k a)) at (f b q)
-      held k (copy b y v) a q =
-          let p : n .persistent b ≡ true = kind-of n (copy b y v) (in-at (unfoldedConditions n) k a) in
-          let both = and-right (eqb v e) (mem b (reads n e) && sameMarker y (pick b)) (subst T (takes-copy b y v) q) in
-          let t = and-left (mem b (n .preconditions e)) (n .persistent b) (subst T (reads-both b) (and-left (mem b (reads n e)) (sameMarker y (pick b)) both)) in
-          let same = sameMarker-eq y (pick b) (and-right (mem b (reads n e)) (sameMarker y (pick b)) both) in
-          let g : T (hasMarked n (s .seen) (pick b) b) = rw p at (f b t) in
-          rw same (subst T (sym (marked-is n s (pick b) b (marks b t p))) g)
+  -- whatever is taken is taken for a precondition
+  taken-for : (p : UnfoldedCondition) → p ∈ unfoldedConditions n → T (takes n (origin n j) p) → (b : ℕ) × T (mem b (n .preconditions e)) × (lacked b ≡ p)
+  unfolding takes
+  taken-for (ordinary b) i q = (b, q, rw (kind-of n (ordinary b) i))
+  taken-for (copy b y v) i q =
+      let p : n .persistent b ≡ true = kind-of n (copy b y v) i in
+      let all = subst T (takes-copy b y v) q in
+      let both = and-right (eqb v e) (mem b (reads n e) && sameMarker y (pick b)) all in
+      let t = and-left (mem b (n .preconditions e)) (n .persistent b) (subst T (reads-both b) (and-left (mem b (reads n e)) (sameMarker y (pick b)) both)) in
+      let user : v ≡ e = eqb→eq v e (and-left (eqb v e) (mem b (reads n e) && sameMarker y (pick b)) all) in
+      let same : y ≡ pick b = sameMarker-eq y (pick b) (and-right (mem b (reads n e)) (sameMarker y (pick b)) both) in
+      (b, t, rw (p, user, same))
 
-  pub lacking-is : nothing (lacking (basic n) u j) ≡ nothing (failing holds (n .preconditions e))
+  lacking-leads : Leads holds (n .preconditions e) u (basic n .preconditions j) (λ b. conditionNumber n (lacked b))
+  lacking-leads =
+      record {
+        inside = λ b t q. subst T (sym (takes-at n j (conditionNumber n (lacked b)) (lacked b) (condition-at n (lacked b) (lacked-takes b t .inside)))) (lacked-takes b t .taken);
+        fails = λ b t q. i .holding (conditionNumber n (lacked b)) (lacked b) (condition-at n (lacked b) (lacked-takes b t .inside)) ∙ lacked-takes b t .same ∙ q;
+        back = λ c t q.
+            let r = in-pre n j c t in
+            let p = r .0 in
+            let there = in-at (unfoldedConditions n) c (r .1) in
+            let w = taken-for p there (r .2) in
+            let b = w .0 in
+            let number = condition-back n c p (r .1) in (
+              b,
+              w .1,
+              sym (lacked-takes b (w .1) .same) ∙ ap (status n s) (w .2) ∙ sym (i .holding c p (r .1)) ∙ q,
+              λ x l y z. subst (λ (k : ℕ). conditionNumber n (lacked x) ≤ k) number
+                  (in-order n lacked lacked-owner b p there (ap owner (sym (w .2)) ∙ lacked-owner b) (omega (arith, ap (conditionNumber n) (w .2))) x l (lacked-takes x y .inside)),
+            );
+      }
+
+  pub lacking-is : lacking (basic n) u j ≡ led (λ b. conditionNumber n (lacked b)) (failing holds (n .preconditions e))
+  unfolding lacking basic
   lacking-is =
-      iff (nothing (lacking (basic n) u j)) (nothing (failing holds (n .preconditions e)))
-      (λ t. failing-of holds (n .preconditions e) (ready-to t)) (λ t. ready-back (failing-at holds (n .preconditions e) t))
+      failing-led holds (n .preconditions e) u (basic n .preconditions j) (λ b. conditionNumber n (lacked b)) (d .pre-ascends e here)
+      (places-ascend (takes n (origin n j)) (unfoldedConditions n)) lacking-leads
 
   -- ---- postconditions
 
@@ -153,90 +217,129 @@ module _ (n : Net) (d : Sound n) (s : State) (u : Marking) (i : Copies n s u) (j
   opens b = clear n (s .marking) (s .seen) pick e b
 
   abbrev given : ℕ → ℕ → Bool
-  given b v = eqb v e && sameMarker (byEvent e) (pick b)
+  given b v = givenBack pick e b v
 
-  clear-to : T (nothing (contact (basic n) u j)) → (b : ℕ) → T (mem b (n .postconditions e)) → T (opens b)
-  unfolding contact takes puts status marked
-  clear-to t b q = go (n .persistent b) refl
+  abbrev left : ℕ → ℕ
+  left b = metUser (failing (given b) (users n b))
+
+  abbrev met : ℕ → UnfoldedCondition
+  met b = metCondition n pick e b
+
+  met-owner : (b : ℕ) → owner (met b) ≡ b
+  met-owner b = go (n .persistent b)
     where
-      meets : (k : ℕ) (p : UnfoldedCondition) → getElem? (unfoldedConditions n) k ≡ some p → T (puts n (origin n j) p) → T (status n s p) → T (free (basic n) j k)
-      meets k p a x y =
-          imp-or (u k) (free (basic n) j k) (subst T (sym (i .holding k p a)) y)
-          (failing-at (λ k. not (u k) || free (basic n) j k) (basic n .postconditions j) t k (subst T (sym (puts-at n j k p a)) x))
+      go : (x : Bool) → owner (cond x (copy b (byEvent e) (left b)) (ordinary b)) ≡ b
+      go true = refl
+      go false = refl
 
-      again : T (s .seen e) → n .persistent b ≡ true → (v : ℕ) → T (mem v (users n b)) → T (given b v)
-      again z p v y =
-          let r = place-of (copy-in n b (byEvent e) v (d .post-in e b here q) p (event-marks n b e here q) (mem-in v (users n b) y)) in
-          let f = meets (r .0) (copy b (byEvent e) v) (r .1)
-          (or-right (takes n (origin n j) (copy b (byEvent e) v)) (eqb e e && mem b (n .postconditions e)) (and-both (eqb e e) (mem b (n .postconditions e)) (eqb-refl e) q))
-          (and-both (s .seen e) (mem b (n .postconditions e)) z q) in
-          let w = subst T (takes-copy b (byEvent e) v) (subst T (takes-at n j (r .0) (copy b (byEvent e) v) (r .1)) (free-pre (basic n) j (r .0) (basic-plain n (r .0)) f)) in
-          let both = and-right (eqb v e) (mem b (reads n e) && sameMarker (byEvent e) (pick b)) w in
-          and-both (eqb v e) (sameMarker (byEvent e) (pick b)) (and-left (eqb v e) (mem b (reads n e) && sameMarker (byEvent e) (pick b)) w)
-          (and-right (mem b (reads n e)) (sameMarker (byEvent e) (pick b)) both)
+  -- an unfolded condition in contact is put, holds and is not taken
+  record Contact (p : UnfoldedCondition) : Type 0 where
+    inside : p ∈ unfoldedConditions n
+    put : T (puts n (origin n j) p)
+    held : T (status n s p)
+    kept : takes n (origin n j) p ≡ false
 
-      go : (x : Bool) → n .persistent b ≡ x → T (cond x (not (s .seen e) || all (given b) (users n b)) (not (s .marking b) || free n e b))
-      go false p =
-          let r = place-of (ordinary-in n b (d .post-in e b here q) p) in
-          or-imp (s .marking b) (free n e b) (λ y. subst T (free-ordinary n j (r .0) b (r .1) p) (meets (r .0) (ordinary b) (r .1) q y))
-      go true p = or-imp (s .seen e) (all (given b) (users n b)) (λ z. all-of (given b) (users n b) (again z p))
+  test-is : (k : ℕ) (p : UnfoldedCondition) → getElem? (unfoldedConditions n) k ≡ some p → (not (u k) || free (basic n) j k) ≡ (not (status n s p) || takes n (origin n j) p)
+  unfolding free basic
+  test-is k p a = cc (i .holding k p a, takes-at n j k p a)
 
-  clear-back : ((b : ℕ) → T (mem b (n .postconditions e)) → T (opens b)) → T (nothing (contact (basic n) u j))
-  unfolding contact takes puts status marked
-  clear-back f =
-      failing-of (λ k. not (u k) || free (basic n) j k) (basic n .postconditions j) (λ k t.
-      let r = in-post n j k t in
-      or-imp (u k) (free (basic n) j k) (λ z. gone k (r .0) (r .1) (r .2) (subst T (i .holding k (r .0) (r .1)) z)))
+  -- a postcondition that is not clear leads to one
+  met-contact : (b : ℕ) → T (mem b (n .postconditions e)) → opens b ≡ false → Contact (met b)
+  unfolding takes puts status marked free
+  met-contact b t q = go (n .persistent b) refl q
     where
-      gone : (k : ℕ) (p : UnfoldedCondition) → getElem? (unfoldedConditions n) k ≡ some p → T (puts n (origin n j) p) → T (status n s p) → T (free (basic n) j k)
-      gone k (ordinary b) a q z =
-          let p : n .persistent b ≡ false = kind-of n (ordinary b) (in-at (unfoldedConditions n) k a) in
-          let g = subst (λ (x : Bool). T (cond x (not (s .seen e) || all (given b) (users n b)) (not (s .marking b) || free n e b))) p (f b q) in
-          subst T (sym (free-ordinary n j k b a p)) (imp-or (s .marking b) (free n e b) z g)
-      gone k (copy b y v) a q z =
-          free-copy n j k b y v a (subst T (sym (takes-at n j k (copy b y v) a))
-          (or-cases (takes n (origin n j) (copy b y v)) (sameMarker y (byEvent e) && mem b (n .postconditions e)) q (λ w. w) (λ w.
-          let p : n .persistent b ≡ true = kind-of n (copy b y v) (in-at (unfoldedConditions n) k a) in
-          let same = sameMarker-eq y (byEvent e) (and-left (sameMarker y (byEvent e)) (mem b (n .postconditions e)) w) in
-          let put = and-right (sameMarker y (byEvent e)) (mem b (n .postconditions e)) w in
-          let seen : T (s .seen e && mem b (n .postconditions e)) = subst (λ (q : Marker). T (marked n s q b)) same z in
-          let g = subst (λ (x : Bool). T (cond x (not (s .seen e) || all (given b) (users n b)) (not (s .marking b) || free n e b))) p (f b put) in
-          let own = imp-or (s .seen e) (all (given b) (users n b)) (and-left (s .seen e) (mem b (n .postconditions e)) seen) g in
-          let user = pair-of n (copy b y v) (in-at (unfoldedConditions n) k a) .1 in
-          let mine = all-at (given b) (users n b) own v (in-mem user) in
-          let v-is = eqb→eq v e (and-left (eqb v e) (sameMarker (byEvent e) (pick b)) mine) in
-          let picks = sameMarker-eq (byEvent e) (pick b) (and-right (eqb v e) (sameMarker (byEvent e) (pick b)) mine) in
-          let reading = user-reads n b e (subst (λ (x : ℕ). x ∈ users n b) v-is user) in
-          subst (λ (x : ℕ). T (takes n (origin n j) (copy b y x))) (sym v-is)
-          (subst (λ (x : Marker). T (takes n (origin n j) (copy b x e))) (sym (same ∙ picks)) (takes-picked b reading p)))))
+      copied : n .persistent b ≡ true → T (s .seen e) → all (given b) (users n b) ≡ false → Contact (copy b (byEvent e) (left b))
+      copied p z a =
+          let w = failing-lowest (given b) (users n b) (users-ascend n b) (left b) (some-fails (given b) (users n b) a) in
+          record {
+            inside = copy-in n b (byEvent e) (left b) (d .post-in e b here t) p (event-marks n b e here t) (mem-in (left b) (users n b) (w .inside));
+            put = or-right (takes n (origin n j) (copy b (byEvent e) (left b))) (eqb e e && mem b (n .postconditions e)) (and-both (eqb e e) (mem b (n .postconditions e)) (eqb-refl e) t);
+            held = and-both (s .seen e) (mem b (n .postconditions e)) z t;
+            kept = takes-copy b (byEvent e) (left b) ∙ and-between (eqb (left b) e) (mem b (reads n e)) (sameMarker (byEvent e) (pick b)) (w .fails);
+          }
 
-  pub contact-is : nothing (contact (basic n) u j) ≡ nothing (failing opens (n .postconditions e))
+      go : (x : Bool) → n .persistent b ≡ x → cond x (not (s .seen e) || all (given b) (users n b)) (not (s .marking b) || free n e b) ≡ false
+          → Contact (cond x (copy b (byEvent e) (left b)) (ordinary b))
+      go false p q =
+          let r = neither (s .marking b) (free n e b) q in
+          record { inside = ordinary-in n b (d .post-in e b here t) p; put = t; held = r .0; kept = (rw p at (r .1)) }
+      go true p q = let r = neither (s .seen e) (all (given b) (users n b)) q in copied p (r .0) (r .1)
+
+  -- whatever is in contact comes of a postcondition that is not clear, which leads no further
+  contact-for : (p : UnfoldedCondition) → Contact p
+      → (b : ℕ) × T (mem b (n .postconditions e)) × (opens b ≡ false) × (owner p ≡ b) × (conditionNumber n (met b) ≤ conditionNumber n p)
+  unfolding takes puts status marked free
+  contact-for (ordinary b) c =
+      let p : n .persistent b ≡ false = kind-of n (ordinary b) (c .inside) in
+      (b, c .put, rw p (both-fail (s .marking b) (mem b (n .preconditions e)) (c .held) (c .kept)), refl, rw p (omega arith))
+  contact-for (copy b y v) c =
+      let p : n .persistent b ≡ true = kind-of n (copy b y v) (c .inside) in
+      let user = pair-of n (copy b y v) (c .inside) .1 in
+      let w = or-cases (takes n (origin n j) (copy b y v)) (sameMarker y (byEvent e) && mem b (n .postconditions e)) (c .put)
+      (λ x. absurd (not-true (takes n (origin n j) (copy b y v)) (c .kept) x)) (λ x. x) in
+      let same : y ≡ byEvent e = sameMarker-eq y (byEvent e) (and-left (sameMarker y (byEvent e)) (mem b (n .postconditions e)) w) in
+      let put = and-right (sameMarker y (byEvent e)) (mem b (n .postconditions e)) w in
+      let seen : T (s .seen e && mem b (n .postconditions e)) = subst (λ (q : Marker). T (marked n s q b)) same (c .held) in
+      let stays = is-false (given b v) (λ g.
+      let own : v ≡ e = eqb→eq v e (and-left (eqb v e) (sameMarker (byEvent e) (pick b)) g) in
+      let picks = sameMarker-eq (byEvent e) (pick b) (and-right (eqb v e) (sameMarker (byEvent e) (pick b)) g) in
+      let reading = user-reads n b e (subst (λ (x : ℕ). x ∈ users n b) own user) in
+      not-true (takes n (origin n j) (copy b y v)) (c .kept)
+      (subst (λ (x : ℕ). T (takes n (origin n j) (copy b y x))) (sym own)
+      (subst (λ (x : Marker). T (takes n (origin n j) (copy b x e))) (sym (same ∙ picks)) (takes-picked b reading p)))) in
+      let some = is-false (all (given b) (users n b)) (λ a. not-true (given b v) stays (all-at (given b) (users n b) a v (in-mem user))) in
+      let shut : opens b ≡ false = rw p (both-fail (s .seen e) (all (given b) (users n b)) (and-left (s .seen e) (mem b (n .postconditions e)) seen) some) in
+      let mine : copy b (byEvent e) (left b) ∈ unfoldedConditions n = rw p at (met-contact b put shut .inside) in
+      let yours : copy b (byEvent e) v ∈ unfoldedConditions n = subst (λ (x : Marker). copy b x v ∈ unfoldedConditions n) same (c .inside) in (
+        b,
+        put,
+        shut,
+        refl,
+        rw (p, same) (user-below n b (byEvent e) (left b) v mine yours
+            (first-place (given b) (users n b) (left b) v (some-fails (given b) (users n b) some) (in-mem user) stays)),
+      )
+
+  contact-leads : Leads opens (n .postconditions e) (λ k. not (u k) || free (basic n) j k) (basic n .postconditions j) (λ b. conditionNumber n (met b))
+  contact-leads =
+      record {
+        inside = λ b t q. let c = met-contact b t q in subst T (sym (puts-at n j (conditionNumber n (met b)) (met b) (condition-at n (met b) (c .inside)))) (c .put);
+        fails = λ b t q.
+            let c = met-contact b t q in
+            test-is (conditionNumber n (met b)) (met b) (condition-at n (met b) (c .inside)) ∙ both-fail (status n s (met b)) (takes n (origin n j) (met b)) (c .held) (c .kept);
+        back = λ k t q.
+            let r = in-post n j k t in
+            let p = r .0 in
+            let z = neither (status n s p) (takes n (origin n j) p) (sym (test-is k p (r .1)) ∙ q) in
+            let there = in-at (unfoldedConditions n) k (r .1) in
+            let w = contact-for p (record { inside = there; put = r .2; held = z .0; kept = z .1 }) in (
+              w .0,
+              w .1,
+              w .2,
+              λ x l y f. subst (λ (c : ℕ). conditionNumber n (met x) ≤ c) (condition-back n k p (r .1))
+                  (in-order n met met-owner (w .0) p there (w .3) (w .4) x l (met-contact x y f .inside)),
+            );
+      }
+
+  pub contact-is : contact (basic n) u j ≡ led (λ b. conditionNumber n (met b)) (failing opens (n .postconditions e))
+  unfolding contact basic
   contact-is =
-      iff (nothing (contact (basic n) u j)) (nothing (failing opens (n .postconditions e)))
-      (λ t. failing-of opens (n .postconditions e) (clear-to t)) (λ t. clear-back (failing-at opens (n .postconditions e) t))
+      failing-led opens (n .postconditions e) (λ k. not (u k) || free (basic n) j k) (basic n .postconditions j) (λ b. conditionNumber n (met b)) (d .post-ascends e here)
+      (places-ascend (puts n (origin n j)) (unfoldedConditions n)) contact-leads
 
--- ---- the numbers
+-- ---- both together
 
-T-false : true ≡ false → ⊥
-T-false q = subst T q tt
+stop-led : (n : Net) (pick : Picks) (e : ℕ) (a c : Option ℕ)
+    → firstStop true (led (λ b. conditionNumber n (lackedCondition n pick e b)) a) (led (λ b. conditionNumber n (metCondition n pick e b)) c) ≡ unfoldedStop n pick e (firstStop true a c)
+stop-led n pick e none none = refl
+stop-led n pick e none (some b) = refl
+stop-led n pick e (some b) c = refl
 
-number-from : (a c x y : Option ℕ) → nothing a ≡ nothing x → nothing c ≡ nothing y → numberOfStop (firstStop true a c) ≡ numberOfStop (firstStop true x y)
-number-from none none none none p q = refl
-number-from none none none (some y) p q = absurd (T-false q)
-number-from none none (some x) y p q = absurd (T-false p)
-number-from none (some c) none none p q = absurd (T-false (sym q))
-number-from none (some c) none (some y) p q = refl
-number-from none (some c) (some x) y p q = absurd (T-false p)
-number-from (some a) c none y p q = absurd (T-false (sym p))
-number-from (some a) c (some x) y p q = refl
-
--- What stops an unfolded event at an unfolded marking has the number of what is told without it.
+-- What stops an unfolded event at an unfolded marking is what is told without it, down to the condition.
 pub decided : (n : Net) → Sound n → (s : State) (u : Marking) → Copies n s u → (j : ℕ) → T (ltb j (basic n .events)) → (pick : Picks)
     → origin n j .colour ≡ map pick (reads n (origin n j .event))
-    → numberOfStop (stopping (basic n) u j) ≡ numberOfStop (stoppedBy n (s .marking) (s .seen) pick (origin n j .event))
+    → stopping (basic n) u j ≡ unfoldedStop n pick (origin n j .event) (stoppedBy n (s .marking) (s .seen) pick (origin n j .event))
 unfolding stopping stoppedBy
 decided n d s u i j l pick h =
-    rw (is-true (ltb j (basic n .events)) l)
-    (number-from (lacking (basic n) u j) (contact (basic n) u j) (failing (ready n (s .marking) (s .seen) pick) (n .preconditions (origin n j .event)))
-    (failing (clear n (s .marking) (s .seen) pick (origin n j .event)) (n .postconditions (origin n j .event)))
-    (lacking-is n d s u i j l pick h) (contact-is n d s u i j l pick h))
+    rw (is-true (ltb j (basic n .events)) l, lacking-is n d s u i j l pick h, contact-is n d s u i j l pick h)
+    (stop-led n pick (origin n j .event) (failing (ready n (s .marking) (s .seen) pick) (n .preconditions (origin n j .event)))
+    (failing (clear n (s .marking) (s .seen) pick (origin n j .event)) (n .postconditions (origin n j .event))))

@@ -1,3 +1,4 @@
+pub mod Orders
 pub mod Decision
 pub mod Places
 pub mod Tests
