@@ -24,10 +24,11 @@ use Rattle.step.specs.Steps.{setAll, stepped}
 use Rattle.game.specs.Calls.{stoppedAt, leaves}
 use Rattle.step.proofs.Bytes.{lent-at}
 use Rattle.step.proofs.Firing.{length-all, all-at}
-use Rattle.walking.specs.declared.Cause.{Cause}
-use Rattle.walking.specs.declared.Step.{Step}
-use Rattle.walking.specs.declared.Step.the-variants.{Goes, Stops}
-use Rattle.walking.specs.Steps.{stepOf, stops}
+use Rattle.unfolded_step.specs.declared.Cause.{Cause}
+use Rattle.unfolded_step.specs.declared.Step.{Step}
+use Rattle.unfolded_step.specs.declared.Step.the-variants.{Goes, Stops}
+use Rattle.unfolded_step.specs.Steps.{stepOf}
+use Rattle.walking.specs.Steps.{stops}
 use Rattle.firing.specs.Steps.{answeredOf}
 
 -- ---- the unfolded net

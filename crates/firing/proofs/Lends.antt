@@ -29,9 +29,9 @@ use Rattle.game.specs.Calls.{stoppedAt, leaves}
 use Rattle.step.specs.Steps.{stepped}
 use Rattle.step.proofs.Bytes.{lent-of}
 use Rattle.game.proofs.Marked.{wrong-length, byte-above, all-right, none-above}
-use Rattle.walking.specs.declared.Step.{Step}
+use Rattle.unfolded_step.specs.declared.Step.{Step}
 use Rattle.firing.specs.Calls.{unfoldedFireOf, unfoldedFiredOf}
-use Rattle.walking.specs.Steps.{stepOf}
+use Rattle.unfolded_step.specs.Steps.{stepOf}
 use Rattle.firing.specs.Steps.{answeredOf, Lending}
 use Rattle.firing.proofs.Fired.{stops-past, answers, leaves-so}
 

@@ -13,10 +13,10 @@ use Rattle.layout.specs.Unfolds.{unfoldingOf}
 use Rattle.layout.specs.Laid.{Laid}
 use Rattle.step.specs.Lent.{Lent}
 use Rattle.game.specs.Lent.{lent}
-use Rattle.walking.specs.declared.Cause.{Cause}
-use Rattle.walking.specs.declared.Cause.the-variants.{Unknown, Lacks, Meets}
-use Rattle.walking.specs.declared.Step.{Step}
-use Rattle.walking.specs.declared.Step.the-variants.{Goes, Stops}
+use Rattle.unfolded_step.specs.declared.Cause.{Cause}
+use Rattle.unfolded_step.specs.declared.Cause.the-variants.{Unknown, Lacks, Meets}
+use Rattle.unfolded_step.specs.declared.Step.{Step}
+use Rattle.unfolded_step.specs.declared.Step.the-variants.{Goes, Stops}
 
 -- The number of what stops a step (01, Refusal numbers).
 abbrev pub causeNumber : Cause → ℕ

@@ -2,9 +2,9 @@
 use refusal::Judged;
 use refusal::UnfoldedEvent;
 use segments::Owner;
+use unfolded_step::Cause;
+use unfolded_step::Step;
 use unfolding::Found;
-use walking::Cause;
-use walking::Step;
 ghost use mathlib.Core.Path.{_≡_};
 ghost use mathlib.Core.List.{[]};
 ghost use Prim.Native.Nat.{_+_, _≤_};
@@ -18,7 +18,8 @@ ghost use Rattle.table.specs.Decoded.{netOf};
 ghost use Rattle.segments.specs.Ranges.{ranged, Owned};
 ghost use Rattle.step.specs.Lent.{Lent};
 ghost use Rattle.step.specs.Steps.{setAll, stepped};
-ghost use Rattle.walking.specs.Steps.{stepOf, stops, Below};
+ghost use Rattle.unfolded_step.specs.Steps.{stepOf};
+ghost use Rattle.walking.specs.Steps.{stops, Below};
 ghost use Rattle.firing.specs.Calls.{unfoldedFireOf, unfoldedFiredOf};
 ghost use Rattle.firing.specs.Steps.{causeNumber, answeredOf, Lending};
 

@@ -8,11 +8,12 @@ use native.Mathlib.Omega.{arith}
 use Rattle.lists.specs.Lists.{failing}
 use Rattle.model.specs.Net.{Marking, firstStop}
 use Rattle.refusal.specs.declared.UnfoldedCondition.{UnfoldedCondition}
-use Rattle.walking.specs.declared.Cause.the-variants.{Lacks, Meets}
-use Rattle.walking.specs.declared.Step.the-variants.{Goes, Stops}
+use Rattle.unfolded_step.specs.declared.Cause.the-variants.{Lacks, Meets}
+use Rattle.unfolded_step.specs.declared.Step.the-variants.{Goes, Stops}
+use Rattle.unfolded_step.specs.Steps.{stepOf}
 use Rattle.walking.specs.declared.Failing.{Failing}
 use Rattle.walking.specs.declared.Failing.the-variants.{Nothing, At}
-use Rattle.walking.specs.Steps.{passesOf, failingOf, stepOf, stops}
+use Rattle.walking.specs.Steps.{passesOf, failingOf, stops}
 
 found-lacks : (o p : Option ℕ) (b : UnfoldedCondition) → failingOf o ≡ At b → Stops (Lacks b) ≡ stepOf (firstStop true o p)
 found-lacks none p b e = absurd (let z : _≡_ {A = ℕ} 0 1 = cc in omega arith)

@@ -6,12 +6,8 @@ use mathlib.Core.List.{List}
 use lib.Dec.{T}
 use lib.ListN.{length}
 use Rattle.lists.specs.Lists.{mem, failing}
-use Rattle.model.specs.Net.{Marking, Stop, unknown, lacks, meets, firstStop}
+use Rattle.model.specs.Net.{Marking, Stop, firstStop}
 use Rattle.segments.specs.Ranges.{ranged}
-use Rattle.walking.specs.declared.Cause.{Cause}
-use Rattle.walking.specs.declared.Cause.the-variants.{Unknown, Lacks, Meets}
-use Rattle.walking.specs.declared.Step.{Step}
-use Rattle.walking.specs.declared.Step.the-variants.{Goes, Stops}
 use Rattle.walking.specs.declared.Failing.{Failing}
 use Rattle.walking.specs.declared.Failing.the-variants.{Nothing, At}
 
@@ -25,17 +21,6 @@ passesOf true m pre b = not (m b) || mem b pre
 abbrev pub failingOf : Option ℕ → Failing
 failingOf none = Nothing
 failingOf (some b) = At (record { 0 = b })
-
--- What stops a step, as an answer (01, Refusal numbers).
-abbrev pub causeOf : Stop → Cause
-causeOf unknown = Unknown
-causeOf (lacks b) = Lacks (record { 0 = b })
-causeOf (meets b) = Meets (record { 0 = b })
-
--- What a step answers: it goes, or what stops it (01, Refusal numbers).
-abbrev pub stepOf : Option Stop → Step
-stepOf none = Goes
-stepOf (some v) = Stops (causeOf v)
 
 -- What stops an event with these lists, of which no condition is persistent (01, Playing the table).
 abbrev pub stops : Marking → List ℕ → List ℕ → Option Stop

@@ -1,5 +1,7 @@
 // The ranges of an unfolded event walked on an unfolded marking: what stops the event, and bytes set at its conditions.
 use refusal::UnfoldedCondition;
+use unfolded_step::Cause;
+use unfolded_step::Step;
 ghost use mathlib.Core.Path.{_≡_};
 ghost use mathlib.Core.List.{[]};
 ghost use Prim.Native.Nat.{_≤_};
@@ -8,20 +10,8 @@ ghost use Rattle.lists.specs.Lists.{mem, failing, count};
 ghost use Rattle.model.specs.Lent.{marking};
 ghost use Rattle.segments.specs.Ranges.{ranged};
 ghost use Rattle.step.specs.Steps.{setAll};
-ghost use Rattle.walking.specs.Steps.{passesOf, failingOf, stepOf, stops, Kept, Below, BelowIn};
-
-// What stops a step: there is no such unfolded event, or the lowest unfolded condition that is lacking or in contact.
-pub enum Cause {
-    Unknown,
-    Lacks(UnfoldedCondition),
-    Meets(UnfoldedCondition),
-}
-
-// What one step answers: it goes, or what stops it.
-pub enum Step {
-    Goes,
-    Stops(Cause),
-}
+ghost use Rattle.unfolded_step.specs.Steps.{stepOf};
+ghost use Rattle.walking.specs.Steps.{passesOf, failingOf, stops, Kept, Below, BelowIn};
 
 // The first unfolded condition of a list that fails its test.
 pub enum Failing {
