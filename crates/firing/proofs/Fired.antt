@@ -11,6 +11,7 @@ use Rattle.lists.specs.Lists.{mem}
 use Rattle.model.specs.Net.{Net, Marking, free, lacking, contact, fire, Stop, unknown, lacks, meets, stopping}
 use Rattle.lists.proofs.Places.{at-lt}
 use Rattle.model.specs.Unfolding.{unfoldedConditions, basic}
+use Rattle.model.specs.Across.{ofUnfolding}
 use Rattle.model.specs.Numbering.{conditionCount}
 use Rattle.model.proofs.Unfolded.{in-pre, in-post}
 use Rattle.model.proofs.Counts.{count-conditions}
@@ -21,15 +22,14 @@ use Rattle.model.proofs.Lent.{bytes-are}
 use Rattle.refusal.specs.declared.Judged.the-variants.{Fine}
 use Rattle.step.specs.Lent.{Lent}
 use Rattle.step.specs.Steps.{setAll, stepped}
-use Rattle.game.specs.Calls.{stoppedAt, leaves}
+use Rattle.game.specs.Calls.{firingStopped, leaves}
 use Rattle.step.proofs.Bytes.{lent-at}
 use Rattle.step.proofs.Firing.{length-all, all-at}
 use Rattle.unfolded_step.specs.declared.Cause.{Cause}
 use Rattle.unfolded_step.specs.declared.Step.{Step}
 use Rattle.unfolded_step.specs.declared.Step.the-variants.{Goes, Stops}
-use Rattle.unfolded_step.specs.Steps.{stepOf}
+use Rattle.unfolded_step.specs.Steps.{stepOf, answeredOf}
 use Rattle.walking.specs.Steps.{stops}
-use Rattle.firing.specs.Steps.{answeredOf}
 
 -- ---- the unfolded net
 
@@ -106,12 +106,12 @@ list-inside n j false b t = at-lt (unfoldedConditions n) b (in-pre n j b t .1)
 
 -- ---- the call
 
-pub answers : (o : Option Stop) (c : ℕ) → answeredOf (stepOf o) c ≡ refusedOr (stoppedAt 0 o) (Fine c)
+pub answers : (o : Option Stop) (c : ℕ) → answeredOf (stepOf o) c ≡ refusedOr (firingStopped ofUnfolding o) (Fine c)
 answers none c = refl
 answers (some unknown) c = refl
 answers (some (lacks b)) c = refl
 answers (some (meets b)) c = refl
 
-pub leaves-so : (o : Option Stop) (c : ℕ) (new old : List ℕ) → stepped o new old ≡ leaves (refusedOr (stoppedAt 0 o) (Fine c)) new old
+pub leaves-so : (o : Option Stop) (c : ℕ) (new old : List ℕ) → stepped o new old ≡ leaves (refusedOr (firingStopped ofUnfolding o) (Fine c)) new old
 leaves-so none c new old = refl
 leaves-so (some v) c new old = refl

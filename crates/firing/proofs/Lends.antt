@@ -8,6 +8,7 @@ use borrow.Author.Tests.{le-ltb}
 use Rattle.lists.specs.Lists.{sum}
 use Rattle.model.specs.Net.{fire, stopping}
 use Rattle.model.specs.Unfolding.{basic}
+use Rattle.model.specs.Across.{ofUnfolding}
 use Rattle.model.specs.Numbering.{size, eventCount}
 use Rattle.model.specs.Lent.{bytes, marking}
 use Rattle.refusal.specs.declared.Judged.{Judged}
@@ -25,14 +26,14 @@ use Rattle.unfolding.specs.Numbers.{Owner}
 use Rattle.unfolding.proofs.Calls.{conditions-count}
 use Rattle.unfolding.proofs.Numbered.{events-basic}
 use Rattle.game.specs.Lent.{firstAbove, lent}
-use Rattle.game.specs.Calls.{stoppedAt, leaves}
+use Rattle.game.specs.Calls.{firingStopped, leaves}
 use Rattle.step.specs.Steps.{stepped}
 use Rattle.step.proofs.Bytes.{lent-of}
 use Rattle.game.proofs.Marked.{wrong-length, byte-above, all-right, none-above}
 use Rattle.unfolded_step.specs.declared.Step.{Step}
 use Rattle.firing.specs.Calls.{unfoldedFireOf, unfoldedFiredOf}
-use Rattle.unfolded_step.specs.Steps.{stepOf}
-use Rattle.firing.specs.Steps.{answeredOf, Lending}
+use Rattle.unfolded_step.specs.Steps.{stepOf, answeredOf}
+use Rattle.firing.specs.Steps.{Lending}
 use Rattle.firing.proofs.Fired.{stops-past, answers, leaves-so}
 
 -- ---- the table and the marking
@@ -95,12 +96,12 @@ module _ (s m : List ℕ) (j : ℕ) (r : Judged) (ms us bs : List ℕ) (o : Lend
   pub fire-refused : (x : Refusal) → r ≡ Refused x → (r ≡ unfoldedFireOf s m j) × (m ≡ unfoldedFiredOf s m j)
   unfolding unfoldedFireOf unfoldedFiredOf
   fire-refused x t =
-      let own = refusedOr (stoppedAt 0 (stopping (basic (netOf s)) (marking m) j)) (Fine (basic (netOf s) .conditions)) in
+      let own = refusedOr (firingStopped ofUnfolding (stopping (basic (netOf s)) (marking m) j)) (Fine (basic (netOf s) .conditions)) in
       let a = o .refuses own x t in
       (a, sym (ap (λ (y : Judged). leaves y (bytes (basic (netOf s) .conditions) (fire (basic (netOf s)) (marking m) j)) m) (sym a ∙ t)))
 
   module _ (k : ℕ) (t : r ≡ Fine k) where
-    is-own : unfoldedFireOf s m j ≡ refusedOr (stoppedAt 0 (stopping (basic (netOf s)) (marking m) j)) (Fine (basic (netOf s) .conditions))
+    is-own : unfoldedFireOf s m j ≡ refusedOr (firingStopped ofUnfolding (stopping (basic (netOf s)) (marking m) j)) (Fine (basic (netOf s) .conditions))
     unfolding unfoldedFireOf
     is-own = o .goes _ k t
 
@@ -119,7 +120,7 @@ module _ (s m : List ℕ) (j : ℕ) (r : Judged) (ms us bs : List ℕ) (o : Lend
       unfolding unfoldedFiredOf
       fire-answers x c a after ic ix ia e =
           let i = o .long k t in
-          let told : a ≡ refusedOr (stoppedAt 0 (stopping (basic (netOf s)) (marking m) j)) (Fine (basic (netOf s) .conditions))
+          let told : a ≡ refusedOr (firingStopped ofUnfolding (stopping (basic (netOf s)) (marking m) j)) (Fine (basic (netOf s) .conditions))
           = e ∙ rw (ix, ic ∙ i, w .left) (answers (stopping (basic (netOf s)) (marking m) j) (basic (netOf s) .conditions)) in
           let new = bytes (basic (netOf s) .conditions) (fire (basic (netOf s)) (marking m) j) in
           (told ∙ sym is-own, ia ∙ rw (w .left) (leaves-so (stopping (basic (netOf s)) (marking m) j) (basic (netOf s) .conditions) new m) ∙ ap (λ (y : Judged). leaves y new m) (sym is-own))

@@ -1,4 +1,4 @@
--- What a step of the unfolded net answers as a call, and what a lent unfolded marking must be.
+-- What a lent unfolded marking must be.
 use Prim.Native.Nat.{ℕ}
 use mathlib.Core.Path.{_≡_}
 use mathlib.Core.List.{List}
@@ -7,27 +7,11 @@ use Rattle.model.specs.Unfolding.{basic}
 use Rattle.refusal.specs.declared.Judged.{Judged}
 use Rattle.refusal.specs.declared.Judged.the-variants.{Fine, Refused}
 use Rattle.refusal.specs.declared.Refusal.{Refusal}
-use Rattle.refusal.specs.Answer.{refusedAt}
 use Rattle.table.specs.Decoded.{netOf}
 use Rattle.layout.specs.Unfolds.{unfoldingOf}
 use Rattle.layout.specs.Laid.{Laid}
 use Rattle.step.specs.Lent.{Lent}
 use Rattle.game.specs.Lent.{lent}
-use Rattle.unfolded_step.specs.declared.Cause.{Cause}
-use Rattle.unfolded_step.specs.declared.Cause.the-variants.{Unknown, Lacks, Meets}
-use Rattle.unfolded_step.specs.declared.Step.{Step}
-use Rattle.unfolded_step.specs.declared.Step.the-variants.{Goes, Stops}
-
--- The number of what stops a step (01, Refusal numbers).
-abbrev pub causeNumber : Cause → ℕ
-causeNumber Unknown = 10
-causeNumber (Lacks b) = 11
-causeNumber (Meets b) = 12
-
--- A step's answer as that of the call: a value where it goes, else the refusal at place 0 (01, Refusal numbers).
-abbrev pub answeredOf : Step → ℕ → Judged
-answeredOf Goes value = Fine value
-answeredOf (Stops x) value = refusedAt (causeNumber x) 0
 
 -- A table laid out and a lent unfolded marking judged: what refuses them refuses the call, and where nothing does the call's own answer
 -- follows, with what is then known (01, Refusal numbers).

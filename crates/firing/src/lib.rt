@@ -2,7 +2,6 @@
 use refusal::Judged;
 use refusal::UnfoldedEvent;
 use segments::Owner;
-use unfolded_step::Cause;
 use unfolded_step::Step;
 use unfolding::Found;
 ghost use mathlib.Core.Path.{_≡_};
@@ -21,7 +20,7 @@ ghost use Rattle.step.specs.Steps.{setAll, stepped};
 ghost use Rattle.unfolded_step.specs.Steps.{stepOf};
 ghost use Rattle.walking.specs.Steps.{stops, Below};
 ghost use Rattle.firing.specs.Calls.{unfoldedFireOf, unfoldedFiredOf};
-ghost use Rattle.firing.specs.Steps.{causeNumber, answeredOf, Lending};
+ghost use Rattle.firing.specs.Steps.{Lending};
 
 // A step over the ranges of what is taken and of what is put: tested, then what is taken cleared and what is put set.
 fn step_over<'a>(
@@ -89,27 +88,6 @@ fn step_at<'a>(
     step_over(&starts, &sizes, taken, &firsts, &widths, put, state)
 }
 
-// The number of what stops a step.
-fn cause_number(cause: Cause) -> u8
-    ensures { λ r. ⌜ r ≡ causeNumber cause ⌝ }
-{
-    match cause {
-        Cause::Unknown => 10,
-        Cause::Lacks(_) => 11,
-        Cause::Meets(_) => 12,
-    }
-}
-
-// A step's answer as that of the call: a value where it goes, else the refusal.
-fn answered(step: Step, value: usize) -> Judged
-    ensures { λ r. ⌜ r ≡ answeredOf step value ⌝ }
-{
-    match step {
-        Step::Goes => Judged::Fine(value),
-        Step::Stops(cause) => refusal::refused(cause_number(cause), 0),
-    }
-}
-
 // A table laid out and a lent unfolded marking of it judged; fine: the number of the table's events.
 fn lend<'a>(
     table: &'a [u8],
@@ -156,5 +134,5 @@ pub fn unfolded_fire(table: &[u8], marking: &mut [u8], j: UnfoldedEvent) -> Judg
     let count = marking.len();
     let own = segments::own(e, at, weight, rest);
     let step = step_at(table, &markers, &users, &bases, own, marking);
-    answered(step, count)
+    unfolded_step::answered(step, count)
 }
