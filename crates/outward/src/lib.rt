@@ -3,6 +3,7 @@ use conditions::ConditionOrigin;
 use events::Colour;
 use events::EventOrigin;
 use events::Pick;
+use refusal::By;
 use refusal::Judged;
 use refusal::Marker;
 use refusal::TableCondition;
@@ -13,18 +14,30 @@ ghost use lib.ListN.{length, getD};
 ghost use Rattle.refusal.specs.Answer.{fitting, valueOf, written};
 ghost use Rattle.unfolding.specs.Markers.{meant};
 ghost use Rattle.events.specs.Colours.{markerAt};
-ghost use Rattle.outward.specs.Told.{answerOf, valueOr, given};
+ghost use Rattle.outward.specs.Told.{byNumber, answerOf, valueOr, given};
 ghost use Rattle.outward.specs.Origins.{originAnswer, conditionOr, copyOr, markerOr, userOr};
 ghost use Rattle.outward.specs.Words.{startWord, wordOf, markerOf, colourFor, wordsOf, markersOf, markersInto, conditionFor};
 
 // The number that stands for the start.
 const START: u32 = 0xFFFFFFFF;
 
-// An answer as C sees it: 0 and 0 where the call worked, else a refusal.
+// An answer as C sees it: 0, 0 and 0 where the call worked, else a refusal with the condition that stopped a step.
 #[repr(C)]
 pub struct Answer {
     pub number: u64,
     pub place: u64,
+    pub by: u64,
+}
+
+// The number of the condition that stopped a step, 0 where none did.
+fn by_number(by: By) -> u64
+    ensures { λ r. ⌜ r ≡ byNumber by ⌝ }
+{
+    match by {
+        By::Nothing => 0,
+        By::Table(b) => b.0 as u64,
+        By::Unfolded(b) => b.0 as u64,
+    }
 }
 
 // An answer told to C.
@@ -34,6 +47,7 @@ pub fn told(judged: Judged) -> Answer
     Answer {
         number: refusal::number_of(judged) as u64,
         place: refusal::place_of(judged) as u64,
+        by: by_number(refusal::by_of(judged)),
     }
 }
 
