@@ -7,6 +7,7 @@ pub mod Lent
 pub mod Replay
 pub mod Unfolded
 pub mod Sets
+pub mod Stopped
 pub mod Numbers
 pub mod Counts
 pub mod Idle

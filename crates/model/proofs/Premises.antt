@@ -6,15 +6,17 @@ use mathlib.Core.List.{[], _∷_}
 use Prim.Native.Nat.{ℕ}
 use lib.Dec.{T}
 use lib.ListN.{getElem?}
-use Rattle.model.specs.Net.{Sound, begin}
+use Rattle.lists.specs.Lists.{mem}
+use Rattle.model.specs.Net.{Sound, Marking, begin, meets, stopping}
 use Rattle.model.specs.Runs.{runs, end, byEvent}
 use Rattle.model.specs.Unfolding.{copy, unfoldedConditions, unfoldedEvents, basic}
 use Rattle.model.specs.Numbering.{number}
 use Rattle.model.specs.Exchange.{exchanged}
 use Rattle.model.specs.Across.{other, run, refusal, tooLong, within, unfoldingRefused, earliest, lift, readBack, project, exchange}
-use Rattle.model.specs.Demands.{Lifts, Projects, FirstAgain, holdsAfter, Exchanged}
+use Rattle.model.specs.Demands.{StoppedBy, Lifts, Projects, FirstAgain, holdsAfter, Exchanged}
 use Rattle.model.specs.Examples.{_↝_, net, one, two, three, four, netA, netB, netC, netD, netE, netR, netL}
 use Rattle.model.proofs.Soundness.{sound, sound-of}
+use Rattle.model.proofs.Stopped.{stopped-exactly}
 use Rattle.model.proofs.Counts.{number-back}
 use Rattle.model.proofs.Limits.{Idlest, refused-13, refused-14}
 use Rattle.model.proofs.Demands.{lift-lifts, lift-again, project-projects, lift-project, unfolded-marking, exchange-exchanged, exchange-not-apart, exchange-lifts}
@@ -40,6 +42,20 @@ sound-D = sound-of netD tt
 pub sound-E : Sound (netE (two 0 1))
 unfolding netE net one two three sound
 sound-E = sound-of (netE (two 0 1)) tt
+
+-- ---- which condition stopped it
+
+pub both-hold : Marking
+unfolding two
+both-hold = λ b. mem b (two 0 1)
+
+contact-A : stopping (netA (one 0)) both-hold 0 ≡ some (meets 1)
+unfolding stopping both-hold netA one two four net
+contact-A = refl
+
+-- Where conditions 0 and 1 of net A hold, 1 is the lowest on which its event 0 is in contact.
+pub stopped-A : StoppedBy (netA (one 0)) both-hold 0 (meets 1)
+stopped-A = stopped-exactly (netA (one 0)) both-hold 0 sound-A (meets 1) .0 contact-A
 
 -- ---- demand 2
 
