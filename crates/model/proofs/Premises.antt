@@ -16,7 +16,7 @@ use Rattle.model.specs.Across.{other, run, refusal, tooLong, within, unf
 use Rattle.model.specs.Demands.{StoppedBy, Lifts, Projects, FirstAgain, holdsAfter, Exchanged}
 use Rattle.model.specs.Examples.{_↝_, net, one, two, three, four, netA, netB, netC, netD, netE, netR, netL}
 use Rattle.model.proofs.Soundness.{sound, sound-of}
-use Rattle.model.proofs.Stopped.{stopped-exactly}
+use Rattle.model.proofs.Stopped.{stopping-exactly}
 use Rattle.model.proofs.Counts.{number-back}
 use Rattle.model.proofs.Limits.{Idlest, refused-13, refused-14}
 use Rattle.model.proofs.Demands.{lift-lifts, lift-again, project-projects, lift-project, unfolded-marking, exchange-exchanged, exchange-not-apart, exchange-lifts}
@@ -55,7 +55,7 @@ contact-A = refl
 
 -- Where conditions 0 and 1 of net A hold, 1 is the lowest on which its event 0 is in contact.
 pub stopped-A : StoppedBy (netA (one 0)) both-hold 0 (meets 1)
-stopped-A = stopped-exactly (netA (one 0)) both-hold 0 sound-A (meets 1) .0 contact-A
+stopped-A = stopping-exactly (netA (one 0)) both-hold 0 sound-A (meets 1) .0 contact-A
 
 -- ---- demand 2
 

@@ -99,14 +99,14 @@ module _ (n : Net) (m : Marking) (e : ℕ) where
 
     -- What stops a firing is exactly what is told: no such event, the lowest precondition that does not hold, or, where all hold, the
     -- lowest ordinary condition in contact.
-    pub stopped-exactly : (v : Stop) → (stopping n m e ≡ some v) ↔ StoppedBy n m e v
+    pub stopping-exactly : (v : Stop) → (stopping n m e ≡ some v) ↔ StoppedBy n m e v
     unfolding stopping
-    stopped-exactly v = (λ q. subst Told q (told (ltb e (n .events)) refl (lacking n m e) (contact n m e) refl refl), stopped v)
+    stopping-exactly v = (λ q. subst Told q (told (ltb e (n .events)) refl (lacking n m e) (contact n m e) refl refl), stopped v)
 
     -- So contact is never told at a persistent condition.
     pub meets-ordinary : (b : ℕ) → stopping n m e ≡ some (meets b) → n .persistent b ≡ false
     unfolding touched
-    meets-ordinary b q = ordinary (mem b (n .postconditions e)) (m b) (n .persistent b) (mem b (n .preconditions e)) (stopped-exactly (meets b) .0 q .2 .passes)
+    meets-ordinary b q = ordinary (mem b (n .postconditions e)) (m b) (n .persistent b) (mem b (n .preconditions e)) (stopping-exactly (meets b) .0 q .2 .passes)
       where
         ordinary : (a h p q : Bool) → T (a && (h && (not p && not q))) → p ≡ false
         ordinary true true false q t = refl
@@ -128,7 +128,7 @@ refused-exactly n z k s r v i = (
     splits = p .splits;
     place = p .place;
     plays = p .plays;
-    by = stopped-exactly n (end n (s .marking) (p .before)) (p .event) z v .0 (p .stops);
+    by = stopping-exactly n (end n (s .marking) (p .before)) (p .event) z v .0 (p .stops);
   },
   λ p. stops-replay n k s r v i (record {
     before = p .before;
@@ -137,15 +137,15 @@ refused-exactly n z k s r v i = (
     splits = p .splits;
     place = p .place;
     plays = p .plays;
-    stops = stopped-exactly n (end n (s .marking) (p .before)) (p .event) z v .1 (p .by);
+    stops = stopping-exactly n (end n (s .marking) (p .before)) (p .event) z v .1 (p .by);
   }),
 )
 
 -- ---- the same in the unfolded net
 
 -- The unfolded net is sound, so what stops a firing there is exactly what is told, in unfolded conditions.
-pub unfolded-exactly : (n : Net) (u : Marking) (j : ℕ) (v : Stop) → (stopping (basic n) u j ≡ some v) ↔ StoppedBy (basic n) u j v
-unfolded-exactly n u j v = stopped-exactly (basic n) u j (basic-sound n) v
+pub unfolded-stopping-exactly : (n : Net) (u : Marking) (j : ℕ) (v : Stop) → (stopping (basic n) u j ≡ some v) ↔ StoppedBy (basic n) u j v
+unfolded-stopping-exactly n u j v = stopping-exactly (basic n) u j (basic-sound n) v
 
 -- So is what refuses a replay of an unfolded run.
 pub unfolded-refused-exactly : (n : Net) (k : ℕ) (s : State) (w : List ℕ) (v : Stop) (i : ℕ)
