@@ -25,7 +25,6 @@ use Rattle.model.proofs.Sets.{conditions-paper}
 use Rattle.refusal.specs.declared.Judged.the-variants.{Fine}
 use Rattle.refusal.specs.Answer.{refusedAt}
 use Rattle.refusal.proofs.Chain.{need-passes, need-refuses}
-use Rattle.tally.specs.Having.{having}
 use Rattle.unfolding.proofs.Numbered.{index-found, marker-in}
 use Rattle.condition_numbers.specs.Answers.{numbered}
 
@@ -89,8 +88,3 @@ flagged-below s b t = go (decLe (conditions s) b)
         let z : getD (flags s) b 0 ≡ 0 = List·getD-eq-default (flags s) 0 short in
         let one : getD (flags s) b 0 ≡ 1 = eqb-true (getD (flags s) b 0) 1 t in
         absurd (omega arith)
-
--- the place of a user, counted among the events of the table
-pub user-place : (n : Net) (b u k : ℕ) → k ≡ n .events → index (eqb u) (having n false b k) ≡ index (eqb u) (users n b)
-unfolding users
-user-place n b u k q = rw q

@@ -9,32 +9,28 @@ use Prim.Native.Nat.{ℕ, _≤_, _<_}
 use native.Mathlib.Omega.{arith}
 use lib.Dec.{T, eqb, ltb, eqb→eq, eqb-refl}
 use lib.ListN.{getElem?}
-use Rattle.lists.specs.Lists.{mem, all, ascending, failing, nothing, keep, count, _∈_}
+use Rattle.lists.specs.Lists.{mem, all, failing, keep, count, _∈_}
 use Rattle.lists.proofs.Bools.{T-of, is-true, is-false, not-true, and-left, and-right, and-both, or-right, or-cases}
-use Rattle.lists.proofs.Tests.{all-at, nothing-fails}
+use Rattle.lists.proofs.Tests.{all-at}
 use Rattle.lists.proofs.Members.{in-mem, mem-in, keep-in, keep-out, mem-keep}
 use Rattle.lists.proofs.Places.{in-at, places-ascend}
-use Rattle.lists.proofs.Distinct.{count-ascends, ascending-keep}
-use Rattle.lists.proofs.Lowest.{failing-lowest, led, Leads, failing-led, first-place}
+use Rattle.lists.proofs.Lowest.{led, Leads, failing-led, first-place}
 use Rattle.model.specs.Net.{Net, Sound, Marking, lacking, free, contact, firstStop, stopping}
 use Rattle.model.specs.Runs.{Marker, atStart, byEvent, State}
 use Rattle.model.specs.Unfolding.{sameMarker, UnfoldedCondition, ordinary, copy, markers, users, unfoldedConditions, unfoldedEvents, reads, picked, takes, puts, origin, basic}
 use Rattle.model.specs.Numbering.{conditionNumber}
 use Rattle.model.proofs.Laws.{marked}
-use Rattle.model.proofs.Unfolded.{Each, choices-each, sameMarker-refl, sameMarker-eq, event-marks, event-uses, ordinary-in, copy-in, kind-of, pair-of, colour-out, takes-at, puts-at, in-pre, in-post, origin-in}
+use Rattle.model.proofs.Unfolded.{Each, choices-each, sameMarker-refl, sameMarker-eq, kind-of, pair-of, colour-out, takes-at, puts-at, in-pre, in-post, origin-in}
 use Rattle.model.proofs.Numbers.{condition-at}
 use Rattle.model.proofs.Counts.{condition-back}
 use Rattle.model.proofs.Copies.{status, Copies}
-use Rattle.decided.specs.Decided.{Picks, hasMarked, ready, givenBack, clear, stoppedBy, lackedCondition, metUser, metCondition, unfoldedStop}
+use Rattle.decided.specs.Decided.{Picks, hasMarked, ready, givenBack, clear, stoppedBy, lackedCondition, metCondition, unfoldedStop}
 use Rattle.decided.proofs.Orders.{owner, user-below, in-order}
+use Rattle.decided.proofs.Named.{neither, some-fails, not-clear, lacked-owner, left, met-owner, left-lowest, lacked-in, met-in}
 
 -- ---- tests
 
--- what fails of a test that is asked only where another passes, and what makes it fail
-neither : (a c : Bool) → (not a || c) ≡ false → T a × (c ≡ false)
-neither true c q = (tt, q)
-neither false c q = absurd (subst T q tt)
-
+-- what makes a test fail that is asked only where another passes
 both-fail : (a c : Bool) → T a → c ≡ false → (not a || c) ≡ false
 both-fail true c t q = q
 both-fail false c t q = absurd t
@@ -43,14 +39,6 @@ and-between : (a m c : Bool) → (a && c) ≡ false → (a && (m && c)) ≡ fals
 and-between true true c q = q
 and-between true false c q = refl
 and-between false m c q = refl
-
--- where not every member passes, one is found
-some-fails : (f : ℕ → Bool) (l : List ℕ) → all f l ≡ false → failing f l ≡ some (metUser (failing f l))
-some-fails f l a = go (failing f l) (nothing-fails f l ∙ a)
-  where
-    go : (o : Option ℕ) → nothing o ≡ false → o ≡ some (metUser o)
-    go none z = absurd (subst T z tt)
-    go (some v) z = refl
 
 -- ---- a colour laid out by condition
 
@@ -89,10 +77,6 @@ event-puts n b e i = elim (List·Memᴰ·cases-cons i) [
 pub user-reads : (n : Net) (b e : ℕ) → e ∈ users n b → T (mem b (n .preconditions e))
 unfolding users
 user-reads n b e i = keep-out (λ e. mem b (n .preconditions e)) (count 0 (n .events)) i .1
-
-users-ascend : (n : Net) (b : ℕ) → T (ascending (users n b))
-unfolding users
-users-ascend n b = ascending-keep (λ e. mem b (n .preconditions e)) 0 (count 0 (n .events)) (count-ascends 0 (n .events))
 
 -- for a marker of a condition, to have marked it is to have occurred
 marked-is : (n : Net) (s : State) (k : Marker) (b : ℕ) → k ∈ markers n b → marked n s k b ≡ hasMarked n (s .seen) k b
@@ -146,16 +130,8 @@ module _ (n : Net) (d : Sound n) (s : State) (u : Marking) (i : Copies n s u) (j
   abbrev lacked : ℕ → UnfoldedCondition
   lacked b = lackedCondition n pick e b
 
-  lacked-owner : (b : ℕ) → owner (lacked b) ≡ b
-  lacked-owner b = go (n .persistent b)
-    where
-      go : (x : Bool) → owner (cond x (copy b (pick b) e) (ordinary b)) ≡ b
-      go true = refl
-      go false = refl
-
   -- what is taken for a precondition holds exactly if the precondition is ready
   record Takes (b : ℕ) (p : UnfoldedCondition) : Type 0 where
-    inside : p ∈ unfoldedConditions n
     taken : T (takes n (origin n j) p)
     same : status n s p ≡ holds b
 
@@ -164,13 +140,11 @@ module _ (n : Net) (d : Sound n) (s : State) (u : Marking) (i : Copies n s u) (j
   lacked-takes b t = go (n .persistent b) refl
     where
       go : (x : Bool) → n .persistent b ≡ x → Takes b (cond x (copy b (pick b) e) (ordinary b))
-      go false p = record { inside = ordinary-in n b (d .pre-in e b here t) p; taken = t; same = rw p }
-      go true p =
-          record {
-            inside = copy-in n b (pick b) e (d .pre-in e b here t) p (marks b t p) (event-uses n b e here t);
-            taken = takes-picked b t p;
-            same = rw p (marked-is n s (pick b) b (marks b t p));
-          }
+      go false p = record { taken = t; same = rw p }
+      go true p = record { taken = takes-picked b t p; same = rw p (marked-is n s (pick b) b (marks b t p)) }
+
+  lacked-there : (b : ℕ) → T (mem b (n .preconditions e)) → lacked b ∈ unfoldedConditions n
+  lacked-there b t = lacked-in n pick e b d here t (marks b t)
 
   -- whatever is taken is taken for a precondition
   taken-for : (p : UnfoldedCondition) → p ∈ unfoldedConditions n → T (takes n (origin n j) p) → (b : ℕ) × T (mem b (n .preconditions e)) × (lacked b ≡ p)
@@ -188,8 +162,8 @@ module _ (n : Net) (d : Sound n) (s : State) (u : Marking) (i : Copies n s u) (j
   lacking-leads : Leads holds (n .preconditions e) u (basic n .preconditions j) (λ b. conditionNumber n (lacked b))
   lacking-leads =
       record {
-        inside = λ b t q. subst T (sym (takes-at n j (conditionNumber n (lacked b)) (lacked b) (condition-at n (lacked b) (lacked-takes b t .inside)))) (lacked-takes b t .taken);
-        fails = λ b t q. i .holding (conditionNumber n (lacked b)) (lacked b) (condition-at n (lacked b) (lacked-takes b t .inside)) ∙ lacked-takes b t .same ∙ q;
+        inside = λ b t q. subst T (sym (takes-at n j (conditionNumber n (lacked b)) (lacked b) (condition-at n (lacked b) (lacked-there b t)))) (lacked-takes b t .taken);
+        fails = λ b t q. i .holding (conditionNumber n (lacked b)) (lacked b) (condition-at n (lacked b) (lacked-there b t)) ∙ lacked-takes b t .same ∙ q;
         back = λ c t q.
             let r = in-pre n j c t in
             let p = r .0 in
@@ -201,7 +175,7 @@ module _ (n : Net) (d : Sound n) (s : State) (u : Marking) (i : Copies n s u) (j
               w .1,
               sym (lacked-takes b (w .1) .same) ∙ ap (status n s) (w .2) ∙ sym (i .holding c p (r .1)) ∙ q,
               λ x l y z. subst (λ (k : ℕ). conditionNumber n (lacked x) ≤ k) number
-                  (in-order n lacked lacked-owner b p there (ap owner (sym (w .2)) ∙ lacked-owner b) (omega (arith, ap (conditionNumber n) (w .2))) x l (lacked-takes x y .inside)),
+                  (in-order n lacked (lacked-owner n pick e) b p there (ap owner (sym (w .2)) ∙ lacked-owner n pick e b) (omega (arith, ap (conditionNumber n) (w .2))) x l (lacked-there x y)),
             );
       }
 
@@ -219,18 +193,8 @@ module _ (n : Net) (d : Sound n) (s : State) (u : Marking) (i : Copies n s u) (j
   abbrev given : ℕ → ℕ → Bool
   given b v = givenBack pick e b v
 
-  abbrev left : ℕ → ℕ
-  left b = metUser (failing (given b) (users n b))
-
   abbrev met : ℕ → UnfoldedCondition
   met b = metCondition n pick e b
-
-  met-owner : (b : ℕ) → owner (met b) ≡ b
-  met-owner b = go (n .persistent b)
-    where
-      go : (x : Bool) → owner (cond x (copy b (byEvent e) (left b)) (ordinary b)) ≡ b
-      go true = refl
-      go false = refl
 
   -- an unfolded condition in contact is put, holds and is not taken
   record Contact (p : UnfoldedCondition) : Type 0 where
@@ -246,24 +210,27 @@ module _ (n : Net) (d : Sound n) (s : State) (u : Marking) (i : Copies n s u) (j
   -- a postcondition that is not clear leads to one
   met-contact : (b : ℕ) → T (mem b (n .postconditions e)) → opens b ≡ false → Contact (met b)
   unfolding takes puts status marked free
-  met-contact b t q = go (n .persistent b) refl q
+  met-contact b t q = go (n .persistent b) refl there q
     where
-      copied : n .persistent b ≡ true → T (s .seen e) → all (given b) (users n b) ≡ false → Contact (copy b (byEvent e) (left b))
-      copied p z a =
-          let w = failing-lowest (given b) (users n b) (users-ascend n b) (left b) (some-fails (given b) (users n b) a) in
+      there : met b ∈ unfoldedConditions n
+      there = met-in n pick e b d here t (not-clear n pick e b (s .marking) (s .seen) q)
+
+      copied : copy b (byEvent e) (left n pick e b) ∈ unfoldedConditions n → T (s .seen e) → all (given b) (users n b) ≡ false → Contact (copy b (byEvent e) (left n pick e b))
+      copied i z a =
           record {
-            inside = copy-in n b (byEvent e) (left b) (d .post-in e b here t) p (event-marks n b e here t) (mem-in (left b) (users n b) (w .inside));
-            put = or-right (takes n (origin n j) (copy b (byEvent e) (left b))) (eqb e e && mem b (n .postconditions e)) (and-both (eqb e e) (mem b (n .postconditions e)) (eqb-refl e) t);
+            inside = i;
+            put = or-right (takes n (origin n j) (copy b (byEvent e) (left n pick e b))) (eqb e e && mem b (n .postconditions e)) (and-both (eqb e e) (mem b (n .postconditions e)) (eqb-refl e) t);
             held = and-both (s .seen e) (mem b (n .postconditions e)) z t;
-            kept = takes-copy b (byEvent e) (left b) ∙ and-between (eqb (left b) e) (mem b (reads n e)) (sameMarker (byEvent e) (pick b)) (w .fails);
+            kept =
+                takes-copy b (byEvent e) (left n pick e b)
+                ∙ and-between (eqb (left n pick e b) e) (mem b (reads n e)) (sameMarker (byEvent e) (pick b)) (left-lowest n pick e b a .fails);
           }
 
-      go : (x : Bool) → n .persistent b ≡ x → cond x (not (s .seen e) || all (given b) (users n b)) (not (s .marking b) || free n e b) ≡ false
-          → Contact (cond x (copy b (byEvent e) (left b)) (ordinary b))
-      go false p q =
-          let r = neither (s .marking b) (free n e b) q in
-          record { inside = ordinary-in n b (d .post-in e b here t) p; put = t; held = r .0; kept = (rw p at (r .1)) }
-      go true p q = let r = neither (s .seen e) (all (given b) (users n b)) q in copied p (r .0) (r .1)
+      go : (x : Bool) → n .persistent b ≡ x → cond x (copy b (byEvent e) (left n pick e b)) (ordinary b) ∈ unfoldedConditions n
+          → cond x (not (s .seen e) || all (given b) (users n b)) (not (s .marking b) || free n e b) ≡ false
+          → Contact (cond x (copy b (byEvent e) (left n pick e b)) (ordinary b))
+      go false p i q = let r = neither (s .marking b) (free n e b) q in record { inside = i; put = t; held = r .0; kept = rw p at (r .1) }
+      go true p i q = let r = neither (s .seen e) (all (given b) (users n b)) q in copied i (r .0) (r .1)
 
   -- whatever is in contact comes of a postcondition that is not clear, which leads no further
   contact-for : (p : UnfoldedCondition) → Contact p
@@ -289,14 +256,14 @@ module _ (n : Net) (d : Sound n) (s : State) (u : Marking) (i : Copies n s u) (j
       (subst (λ (x : Marker). T (takes n (origin n j) (copy b x e))) (sym (same ∙ picks)) (takes-picked b reading p)))) in
       let some = is-false (all (given b) (users n b)) (λ a. not-true (given b v) stays (all-at (given b) (users n b) a v (in-mem user))) in
       let shut : opens b ≡ false = rw p (both-fail (s .seen e) (all (given b) (users n b)) (and-left (s .seen e) (mem b (n .postconditions e)) seen) some) in
-      let mine : copy b (byEvent e) (left b) ∈ unfoldedConditions n = rw p at (met-contact b put shut .inside) in
+      let mine : copy b (byEvent e) (left n pick e b) ∈ unfoldedConditions n = rw p at (met-contact b put shut .inside) in
       let yours : copy b (byEvent e) v ∈ unfoldedConditions n = subst (λ (x : Marker). copy b x v ∈ unfoldedConditions n) same (c .inside) in (
         b,
         put,
         shut,
         refl,
-        rw (p, same) (user-below n b (byEvent e) (left b) v mine yours
-            (first-place (given b) (users n b) (left b) v (some-fails (given b) (users n b) some) (in-mem user) stays)),
+        rw (p, same) (user-below n b (byEvent e) (left n pick e b) v mine yours
+            (first-place (given b) (users n b) (left n pick e b) v (some-fails (given b) (users n b) some) (in-mem user) stays)),
       )
 
   contact-leads : Leads opens (n .postconditions e) (λ k. not (u k) || free (basic n) j k) (basic n .postconditions j) (λ b. conditionNumber n (met b))
@@ -316,7 +283,7 @@ module _ (n : Net) (d : Sound n) (s : State) (u : Marking) (i : Copies n s u) (j
               w .1,
               w .2,
               λ x l y f. subst (λ (c : ℕ). conditionNumber n (met x) ≤ c) (condition-back n k p (r .1))
-                  (in-order n met met-owner (w .0) p there (w .3) (w .4) x l (met-contact x y f .inside)),
+                  (in-order n met (met-owner n pick e) (w .0) p there (w .3) (w .4) x l (met-contact x y f .inside)),
             );
       }
 

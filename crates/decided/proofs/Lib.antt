@@ -1,4 +1,5 @@
 pub mod Orders
+pub mod Named
 pub mod Decision
 pub mod Places
 pub mod Tests

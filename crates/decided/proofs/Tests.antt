@@ -68,7 +68,7 @@ own-alone e p (x ∷ y ∷ us) d =
     omega arith))
 
 -- a marker that is kept is e exactly if it is no start and its event is e
-own-kept : (e p k : ℕ) → sameMarker (byEvent e) (keptMarker p k) ≡ (not (eqb p 0) && eqb e k)
+pub own-kept : (e p k : ℕ) → sameMarker (byEvent e) (keptMarker p k) ≡ (not (eqb p 0) && eqb e k)
 own-kept e zero k = refl
 own-kept e (suc p) k = rw (ne-eqb (suc p) 0 (λ z. omega arith)) refl
 

@@ -11,7 +11,7 @@ use mathlib.Core.Bool.{Bool, true, false, not, _&&_, cond}
 use lib.Dec.{T, eqb, eqb-refl}
 use lib.ListN.{length, getD, length-map, List·getD-eq-default}
 use borrow.Author.Tests.{eq-eqb, ne-eqb}
-use Rattle.lists.specs.Lists.{mem, all, empty, failing, keep, count, sum}
+use Rattle.lists.specs.Lists.{mem, all, empty, failing, index, keep, count, sum}
 use Rattle.lists.proofs.Bools.{or-left, or-right}
 use Rattle.model.specs.Net.{Net}
 use Rattle.model.specs.Runs.{Marker}
@@ -99,6 +99,11 @@ idle-all n upto e = let z : upto - 0 ≡ n .events = omega arith in rw z
 none-used : (l : List ℕ) (k : ℕ) → k ≡ length l → eqb k 0 ≡ empty l
 none-used [] k e = eq-eqb k 0 e
 none-used (x ∷ l) k e = ne-eqb k 0 (λ z. omega arith)
+
+-- the place of a user, counted among the events of the table
+pub user-place : (n : Net) (b u k : ℕ) → k ≡ n .events → index (eqb u) (having n false b k) ≡ index (eqb u) (users n b)
+unfolding users
+user-place n b u k q = rw q
 
 module _ (s ms : List ℕ) (c : Marked s ms) where
   pub marks-at : (b : ℕ) → b < 256 → getD ms b 0 ≡ length (markers (netOf s) b)

@@ -36,7 +36,7 @@ fn idle<'a>(table: &'a [u8], users: &[u32], pre: &'a [u8], post: &'a [u8]) -> bo
 }
 
 // How many copies condition b has: markers times users, or 1 where it is ordinary.
-fn width<'a>(table: &'a [u8], markers: &'a [u32], users: &'a [u32], b: usize) -> u32
+pub fn width<'a>(table: &'a [u8], markers: &'a [u32], users: &'a [u32], b: usize) -> u32
     requires { ⌜ Low (now markers) × Low (now users) ⌝ }
     ensures { λ r. ⌜ r ≡ widthAt (now (table .entry)) (now (markers .entry)) (now (users .entry)) b ⌝ }
 {

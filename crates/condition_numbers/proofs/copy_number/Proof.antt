@@ -1,5 +1,5 @@
 -- `condition_numbers::copy_number` meets its contract.
-use Rattle.condition_numbers.proofs.Numbered.{user-place, copy-there, copy-ordinary, copy-no-marker, copy-no-user, flagged-below}
+use Rattle.condition_numbers.proofs.Numbered.{copy-there, copy-ordinary, copy-no-marker, copy-no-user, flagged-below}
 use Rattle.model.specs.Numbering.{width}
 use Rattle.lists.specs.Lists.{sum, index}
 use native.Mathlib.Omega.{arith}
@@ -11,7 +11,7 @@ use native.Mathlib.Nat.{mul-le-mul}
 use Rattle.model.specs.Unfolding.{copy, sameMarker, markers, users}
 use Rattle.table.specs.Decoded.{netOf}
 use Rattle.table.proofs.Decoded.{conditions-are-all}
-use Rattle.layout.proofs.Counts.{marks-at, uses-at, counted-low}
+use Rattle.layout.proofs.Counts.{user-place, marks-at, uses-at, counted-low}
 use Rattle.layout.proofs.Limits.{unfolds-passed, unfolds-on, unfolds-judged}
 use Rattle.unfolding.specs.Markers.{meant}
 use Rattle.condition_numbers.specs.Answers.{numbered}
