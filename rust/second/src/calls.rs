@@ -2,7 +2,7 @@
 
 use crate::across::{lifted, projected};
 use crate::export::Doubled;
-use crate::game::{exchanged, fire, play, Game};
+use crate::game::{exchanged, fire, play, Game, Stop};
 use crate::lent::{marking_bytes, read_marking, write_answer};
 use crate::records::MOST_STEPS;
 use crate::refusal::{refuse, require, Answer};
@@ -105,14 +105,16 @@ pub fn start(table: &[u8], output: &mut [u8]) -> Answer<usize> {
 pub fn has_concession(table: &[u8], marking: &[u8], event: u16) -> Answer<()> {
     let net = net_of(table)?;
     let before = read_marking(marking, net.persistent.len())?;
-    fire(&net, &before, event, 0).map(|_| ())
+    fire(&net, &before, event)
+        .map(|_| ())
+        .map_err(Stop::of_firing)
 }
 
 /// Fires an event: the new marking is written over the lent one.
 pub fn fire_event(table: &[u8], marking: &mut [u8], event: u16) -> Answer<()> {
     let net = net_of(table)?;
     let before = read_marking(marking, net.persistent.len())?;
-    let after = fire(&net, &before, event, 0)?;
+    let after = fire(&net, &before, event).map_err(Stop::of_firing)?;
     marking.copy_from_slice(&marking_bytes(&after));
     Ok(())
 }
@@ -219,14 +221,16 @@ pub fn unfolded_start(table: &[u8], output: &mut [u8]) -> Answer<usize> {
 pub fn has_unfolded_concession(table: &[u8], marking: &[u8], number: u16) -> Answer<()> {
     let (_, unfolding) = unfolding_of(table)?;
     let before = read_marking(marking, unfolding.conditions.len())?;
-    fire(&unfolding, &before, number, 0).map(|_| ())
+    fire(&unfolding, &before, number)
+        .map(|_| ())
+        .map_err(Stop::of_firing)
 }
 
 /// Fires an unfolded event: the new unfolded marking is written over the lent one.
 pub fn fire_unfolded(table: &[u8], marking: &mut [u8], number: u16) -> Answer<()> {
     let (_, unfolding) = unfolding_of(table)?;
     let before = read_marking(marking, unfolding.conditions.len())?;
-    let after = fire(&unfolding, &before, number, 0)?;
+    let after = fire(&unfolding, &before, number).map_err(Stop::of_firing)?;
     marking.copy_from_slice(&marking_bytes(&after));
     Ok(())
 }

@@ -1,7 +1,7 @@
 //! The token game: concession, firing, playing a run and exchanging steps (01, Playing the table; the paper, section 5).
 
 use crate::lent::marking_of;
-use crate::refusal::{refuse, require, Answer};
+use crate::refusal::{refuse, require, Answer, Refusal};
 use crate::table::{Event, Net};
 
 /// A net that is played: the table's net, or its unfolding with all conditions ordinary.
@@ -28,13 +28,52 @@ impl Game for Net {
     }
 }
 
-/// Tests the concession of an event, with 11 before 12; the place is where the caller says.
-fn concession(persistent: &[bool], event: &Event, marking: &[bool], place: usize) -> Answer<()> {
+/// Why an event does not fire: 10, or 11 or 12 with the condition that stopped it (02, No. 2).
+#[derive(Clone, Copy, Debug, PartialEq, Eq)]
+pub struct Stop {
+    pub number: u8,
+    pub by: Option<u16>,
+}
+
+impl Stop {
+    /// The refusal of a firing: the condition is its place too, and 10 has place 0.
+    pub fn of_firing(self) -> Refusal {
+        self.at_step(self.by.map_or(0, usize::from))
+    }
+
+    /// The refusal of a run: its place is the step, and the condition stands beside it.
+    pub fn at_step(self, step: usize) -> Refusal {
+        Refusal {
+            number: self.number,
+            place: step,
+            by: self.by,
+        }
+    }
+}
+
+/// Stops with this number by the lowest of the conditions at fault, if there is any.
+fn lowest_at_fault(number: u8, at_fault: impl Iterator<Item = u16>) -> Result<(), Stop> {
+    match at_fault.min() {
+        None => Ok(()),
+        by => Err(Stop { number, by }),
+    }
+}
+
+/// Tests the concession of an event: 11 by the lowest precondition that does not hold, before 12 by the lowest ordinary condition in
+/// contact.
+fn concession(persistent: &[bool], event: &Event, marking: &[bool]) -> Result<(), Stop> {
+    let Event {
+        preconditions,
+        postconditions,
+    } = event;
     let holds = |b: &u16| marking[usize::from(*b)];
-    let in_contact =
-        |b: &u16| !persistent[usize::from(*b)] && holds(b) && !event.preconditions.contains(b);
-    require(event.preconditions.iter().all(holds), 11, place)?;
-    require(!event.postconditions.iter().any(in_contact), 12, place)
+    let ordinary = |b: &u16| !persistent[usize::from(*b)];
+    let lacking = preconditions.iter().filter(|b| !holds(b));
+    let contact = postconditions
+        .iter()
+        .filter(|b| ordinary(b) && holds(b) && !preconditions.contains(b));
+    lowest_at_fault(11, lacking.copied())?;
+    lowest_at_fault(12, contact.copied())
 }
 
 /// The marking after an event with concession.
@@ -54,12 +93,14 @@ fn fired(persistent: &[bool], event: &Event, marking: &[bool]) -> Vec<bool> {
     after
 }
 
-/// Fires the event with this number: the marking after it, or 10, 11 or 12 at the given place.
-pub fn fire<G: Game>(game: &G, marking: &[bool], number: u16, place: usize) -> Answer<Vec<bool>> {
-    let Some(event) = game.event(number) else {
-        return refuse(10, place);
+/// Fires the event with this number: the marking after it, or why it does not fire.
+pub fn fire<G: Game>(game: &G, marking: &[bool], number: u16) -> Result<Vec<bool>, Stop> {
+    let unknown = Stop {
+        number: 10,
+        by: None,
     };
-    concession(game.persistent(), &event, marking, place)?;
+    let event = game.event(number).ok_or(unknown)?;
+    concession(game.persistent(), &event, marking)?;
     Ok(fired(game.persistent(), &event, marking))
 }
 
@@ -67,8 +108,8 @@ pub fn fire<G: Game>(game: &G, marking: &[bool], number: u16, place: usize) -> A
 pub fn markings_along<G: Game>(game: &G, start: Vec<bool>, run: &[u16]) -> Answer<Vec<Vec<bool>>> {
     let mut markings = vec![start];
     for (step, number) in run.iter().enumerate() {
-        let after = fire(game, &markings[step], *number, step)?;
-        markings.push(after);
+        let after = fire(game, &markings[step], *number);
+        markings.push(after.map_err(|stop| stop.at_step(step))?);
     }
     Ok(markings)
 }
@@ -77,7 +118,7 @@ pub fn markings_along<G: Game>(game: &G, start: Vec<bool>, run: &[u16]) -> Answe
 pub fn play<G: Game>(game: &G, start: Vec<bool>, run: &[u16]) -> Answer<Vec<bool>> {
     let mut marking = start;
     for (step, number) in run.iter().enumerate() {
-        marking = fire(game, &marking, *number, step)?;
+        marking = fire(game, &marking, *number).map_err(|stop| stop.at_step(step))?;
     }
     Ok(marking)
 }

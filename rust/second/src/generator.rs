@@ -303,10 +303,7 @@ fn finished(random: &mut Random, broken: Broken) -> Damaged {
     }
     Damaged {
         bytes,
-        refusal: Refusal {
-            number: broken.number,
-            place,
-        },
+        refusal: Refusal::at(broken.number, place),
     }
 }
 
@@ -324,10 +321,7 @@ fn cut(random: &mut Random, net: &Net) -> Damaged {
     let place = boundaries.into_iter().filter(|o| *o <= length).max();
     Damaged {
         bytes,
-        refusal: Refusal {
-            number: 1,
-            place: place.unwrap_or(0),
-        },
+        refusal: Refusal::at(1, place.unwrap_or(0)),
     }
 }
 
@@ -344,7 +338,7 @@ fn trailing(random: &mut Random, net: &Net) -> Damaged {
     }
     Damaged {
         bytes,
-        refusal: Refusal { number: 9, place },
+        refusal: Refusal::at(9, place),
     }
 }
 
@@ -554,7 +548,7 @@ fn firing_event<G: Game>(
 ) -> Option<u16> {
     let first = random.below(events);
     let tries = (first..events).chain(0..first).take(600);
-    let fires = |e: &usize| !barred[*e] && fire(game, marking, *e as u16, 0).is_ok();
+    let fires = |e: &usize| !barred[*e] && fire(game, marking, *e as u16).is_ok();
     tries.into_iter().find(fires).map(|e| e as u16)
 }
 
@@ -567,7 +561,7 @@ pub fn walk<G: Game>(random: &mut Random, game: &G, events: usize, walk: &Walk) 
         if random.percent(walk.arbitrary) {
             let number = random.word_below(events + 2);
             run.push(number);
-            if let Ok(after) = fire(game, &marking, number, 0) {
+            if let Ok(after) = fire(game, &marking, number) {
                 marking = after;
             }
             continue;
@@ -575,7 +569,7 @@ pub fn walk<G: Game>(random: &mut Random, game: &G, events: usize, walk: &Walk) 
         let Some(number) = firing_event(random, game, events, &marking, &barred) else {
             break;
         };
-        if let Ok(after) = fire(game, &marking, number, 0) {
+        if let Ok(after) = fire(game, &marking, number) {
             marking = after;
         }
         barred[usize::from(number)] = walk.avoid_repeats && marks_persistent(game, number);

@@ -1,12 +1,13 @@
-//! Random small nets with answers, as lines of the proved model's table of examples in its own notation.
+//! Random small nets with answers, as lines for the proved model: those of its own table of examples, in its own notation, and lines
+//! on what is refused, with the condition that stopped it, which the written module says how to compute.
 
 use crate::across::{lifted, projected};
 use crate::calls;
-use crate::game::{exchanged, fire, play, Game};
+use crate::game::{exchanged, fire, play, Game, Stop};
 use crate::generator::{condition_limit_net, event_limit_net, small_net, walk, Random, Walk};
 use crate::lent::{list_of, marking_of};
 use crate::records::MOST_STEPS;
-use crate::refusal::Answer;
+use crate::refusal::{Answer, Refusal};
 use crate::table::{table_bytes, Event, Net};
 use crate::unfolding::{counts, judge_unfolding, unfold, Marker, UnfoldedEvent, Unfolding};
 
@@ -17,7 +18,7 @@ const MOST_EVENTS: u128 = 300;
 const CHUNK: usize = 50;
 
 /// Every kind of line, with the number of the refusal that it shows (0 for none); those that say most come more often.
-const KINDS: [(&str, u8); 40] = [
+const KINDS: [(&str, u8); 44] = [
     ("counts", 0),
     ("lists", 0),
     ("lists", 0),
@@ -30,6 +31,10 @@ const KINDS: [(&str, u8); 40] = [
     ("stops", 10),
     ("stops", 11),
     ("stops", 12),
+    ("stopsUnfolded", 0),
+    ("stopsUnfolded", 10),
+    ("stopsUnfolded", 11),
+    ("stopsUnfolded", 12),
     ("fires", 0),
     ("fires", 0),
     ("plays", 0),
@@ -58,6 +63,16 @@ const KINDS: [(&str, u8); 40] = [
     ("notExchanged", 12),
     ("notExchanged", 17),
     ("notExchanged", 17),
+];
+
+/// The kinds of the written module itself; the others are the model's own.
+const OWN: [&str; 6] = [
+    "stops",
+    "stopsUnfolded",
+    "notPlayed",
+    "notLifted",
+    "notProjected",
+    "notExchanged",
 ];
 
 /// A line with its kind and the number of the refusal that it shows.
@@ -105,10 +120,30 @@ fn markers_text(markers: &[Marker]) -> String {
     list_text(&texts)
 }
 
+/// A condition in the notation, or that there is none.
+fn condition_text(by: Option<u16>) -> String {
+    by.map_or("none".to_string(), |condition| {
+        format!("(some {condition})")
+    })
+}
+
+/// What stops a firing in the notation, or that nothing does.
+fn stop_text(stop: Option<Stop>) -> String {
+    match stop {
+        None => "none".to_string(),
+        Some(Stop { number: 11, by }) => format!("(some (lacks {}))", by.unwrap_or_default()),
+        Some(Stop { number: 12, by }) => format!("(some (meets {}))", by.unwrap_or_default()),
+        Some(_) => "(some unknown)".to_string(),
+    }
+}
+
 /// A line from a kind, the refusal number that it shows, its net and the rest of its text.
 fn line(kind: &'static str, number: u8, net: &Net, rest: String) -> Line {
     let text = format!("{kind} {} {rest}", net_text(net));
-    let text = text.trim_end().to_string();
+    let text = match (text.trim_end(), OWN.contains(&kind)) {
+        (own, true) => own.to_string(),
+        (example, false) => format!("example ({example})"),
+    };
     Line { kind, number, text }
 }
 
@@ -122,12 +157,15 @@ fn answer_line<T>(
 ) -> Line {
     match answer {
         Ok(value) => line(kinds.0, 0, net, format!("{asked} {}", value_text(&value))),
-        Err(r) => line(
-            kinds.1,
-            r.number,
-            net,
-            format!("{asked} {} {}", r.number, r.place),
-        ),
+        Err(Refusal { number, place, by }) => {
+            let by = condition_text(by);
+            line(
+                kinds.1,
+                number,
+                net,
+                format!("{asked} {number} {place} {by}"),
+            )
+        }
     }
 }
 
@@ -205,23 +243,43 @@ fn numbered_line(random: &mut Random, net: &Net, unfolding: &Unfolding) -> Optio
     ))
 }
 
-/// A firing at a random marking, as a line on the refusal or on the marking after.
-fn firing_line(random: &mut Random, net: &Net) -> Line {
-    let conditions = net.persistent.len();
-    let held: Vec<u16> = (0..=u16::MAX)
+/// A random list of the conditions that hold, of so many.
+fn any_held(random: &mut Random, conditions: usize) -> Vec<u16> {
+    (0..=u16::MAX)
         .take(conditions)
         .filter(|_| random.percent(60))
-        .collect();
+        .collect()
+}
+
+/// A firing at a random marking, as a line on what stops it or on the marking after.
+fn firing_line(random: &mut Random, net: &Net) -> Line {
+    let conditions = net.persistent.len();
+    let held = any_held(random, conditions);
     let event = random.below(net.events.len() + 1) as u16;
     let asked = format!("{} {event}", list_text(&held));
-    match fire(net, &marking_of(&held, conditions), event, 0) {
-        Err(r) => line("stops", r.number, net, format!("{asked} {}", r.number)),
-        Ok(_) if random.percent(30) => line("stops", 0, net, format!("{asked} 0")),
-        Ok(after) => {
+    match fire(net, &marking_of(&held, conditions), event) {
+        Ok(after) if random.percent(70) => {
             let after = list_text(&list_of(&after));
             line("fires", 0, net, format!("{asked} {after}"))
         }
+        fired => stop_line("stops", net, &asked, fired.err()),
     }
+}
+
+/// A line on what stops a firing, or that nothing does.
+fn stop_line(kind: &'static str, net: &Net, asked: &str, stop: Option<Stop>) -> Line {
+    let number = stop.map_or(0, |stop| stop.number);
+    line(kind, number, net, format!("{asked} {}", stop_text(stop)))
+}
+
+/// A firing at a random marking of the unfolded net, as a line on what stops it.
+fn unfolded_firing_line(random: &mut Random, net: &Net, unfolding: &Unfolding) -> Line {
+    let conditions = unfolding.conditions.len();
+    let held = any_held(random, conditions);
+    let number = random.below(unfolding.events.len() + 1) as u16;
+    let fired = fire(unfolding, &marking_of(&held, conditions), number);
+    let asked = format!("{} {number}", list_text(&held));
+    stop_line("stopsUnfolded", net, &asked, fired.err())
 }
 
 /// A way to walk of at most six steps.
@@ -304,6 +362,7 @@ fn candidate(random: &mut Random, kind: &str) -> Option<Line> {
         "numbered" => numbered_line(random, &net, &unfolding),
         "unfolded" | "notUnfolded" => Some(unfolding_line(&net)),
         "stops" | "fires" => Some(firing_line(random, &net)),
+        "stopsUnfolded" => Some(unfolded_firing_line(random, &net, &unfolding)),
         "plays" | "notPlayed" => Some(replay_line(random, &net)),
         "lifts" | "notLifted" => Some(lift_line(random, &net)),
         "projects" | "notProjected" => Some(project_line(random, &net, &unfolding)),
@@ -424,19 +483,87 @@ pub fn limit_lines() -> Vec<String> {
     lines.into_iter().map(|line| line.text).collect()
 }
 
+/// What the written module takes from elsewhere.
+const USES: &str = "\
+use mathlib.Core.Bool.{Bool, true, false, _&&_}
+use mathlib.Core.Option.{Option, none, some}
+use mathlib.Core.List.{List, [], _∷_}
+use Prim.Native.Nat.{ℕ}
+use lib.Dec.{eqb}
+use lib.ListN.{replicate}
+use Rattle.lists.specs.Lists.{mem}
+use Rattle.model.specs.Net.{Net, Stop, unknown, lacks, meets, stopNumber, stopCondition, stopping}
+use Rattle.model.specs.Runs.{atStart, byEvent, opening, Played, ends, refused, replay}
+use Rattle.model.specs.Unfolding.{basic}
+use Rattle.model.specs.Across.{numberOf, placeOf, byOf, Answer, run, refusal, lift, project, exchange}
+use Rattle.model.specs.Examples.{Line, passes, net, _↝_, counts, lists, behind, numbered, unfolded, notUnfolded, fires, plays, lifts, projects, exchanges}
+";
+
+/// The kinds of lines of the written module, and how each is computed.
+const AGREEMENT: &str = "
+-- A line of the model's own table of examples, or one on what is refused, with the condition that stopped it (02, No. 2).
+pub data Compared : Type 0 where
+  example : Line → Compared
+  stops : Net → List ℕ → ℕ → Option Stop → Compared  -- marking, event, what stops it
+  stopsUnfolded : Net → List ℕ → ℕ → Option Stop → Compared  -- unfolded marking, unfolded event, what stops it
+  notPlayed : Net → List ℕ → ℕ → ℕ → Option ℕ → Compared  -- list, refusal, step, condition
+  notLifted : Net → List ℕ → ℕ → ℕ → Option ℕ → Compared  -- run, refusal, place, condition
+  notProjected : Net → List ℕ → ℕ → ℕ → Option ℕ → Compared  -- unfolded list, refusal, place, unfolded condition
+  notExchanged : Net → List ℕ → ℕ → ℕ → ℕ → Option ℕ → Compared  -- run, step, refusal, place, condition
+
+-- Two conditions are the same, or there is neither.
+unfoldable pub sameCondition : Option ℕ → Option ℕ → Bool
+sameCondition none none = true
+sameCondition none (some b) = false
+sameCondition (some a) none = false
+sameCondition (some a) (some b) = eqb a b
+
+-- Two stops are the same by number and condition, or there is neither.
+unfoldable pub sameStop : Option Stop → Option Stop → Bool
+unfolding sameCondition
+sameStop none none = true
+sameStop none (some w) = false
+sameStop (some v) none = false
+sameStop (some v) (some w) = eqb (stopNumber v) (stopNumber w) && sameCondition (stopCondition v) (stopCondition w)
+
+-- A replay is refused with this number at this step, by this condition.
+unfoldable pub isStopBy : Played → ℕ → ℕ → Option ℕ → Bool
+unfolding sameCondition
+isStopBy (ends s) x k c = false
+isStopBy (refused v i) x k c = eqb (stopNumber v) x && eqb i k && sameCondition (stopCondition v) c
+
+-- An answer is the refusal with this number and place, by this condition.
+unfoldable pub isRefusalBy : Answer → ℕ → ℕ → Option ℕ → Bool
+unfolding sameCondition
+isRefusalBy (run w) x k c = false
+isRefusalBy (refusal y) x k c = eqb (numberOf y) x && eqb (placeOf y) k && sameCondition (byOf y) c
+
+-- The answer that the definitions give is the line's.
+unfoldable pub agrees : Compared → Bool
+unfolding passes stopping basic replay opening lift project exchange sameStop isStopBy isRefusalBy
+agrees (example l) = passes l
+agrees (stops n m e v) = sameStop (stopping n (λ b. mem b m) e) v
+agrees (stopsUnfolded n m j v) = sameStop (stopping (basic n) (λ b. mem b m) j) v
+agrees (notPlayed n r x k c) = isStopBy (replay n 0 (opening n) r) x k c
+agrees (notLifted n r x k c) = isRefusalBy (lift n r) x k c
+agrees (notProjected n w x k c) = isRefusalBy (project n w) x k c
+agrees (notExchanged n r k x i c) = isRefusalBy (exchange n r k) x i c
+
+-- Every line of a list agrees.
+unfoldable pub allAgree : List Compared → Bool
+unfolding agrees
+allAgree [] = true
+allAgree (x ∷ xs) = agrees x && allAgree xs
+";
+
 /// The module of the lists of lines.
 pub fn specs_module(lines: &[String], seed: u64) -> String {
     let mut text = format!(
-        "-- Lines answered by the second implementation from random small nets, seed {seed}.\n\
-         use mathlib.Core.List.{{List, [], _∷_}}\n\
-         use lib.ListN.{{replicate}}\n\
-         use Rattle.model.specs.Runs.{{atStart, byEvent}}\n\
-         use Rattle.model.specs.Examples.{{Line, net, _↝_, counts, lists, behind, numbered, unfolded, notUnfolded, stops, \
-         fires, plays, notPlayed, lifts, notLifted, projects, notProjected, exchanges, notExchanged}}\n"
+        "-- Lines answered by the second implementation from random small nets, seed {seed}.\n{USES}{AGREEMENT}"
     );
     for (chunk, lines) in lines.chunks(CHUNK).enumerate() {
         text.push_str(&format!(
-            "\n-- Lines from {} on.\nunfoldable pub compared{chunk} : List Line\nunfolding net\ncompared{chunk} =\n",
+            "\n-- Lines from {} on.\nunfoldable pub compared{chunk} : List Compared\nunfolding net\ncompared{chunk} =\n",
             chunk * CHUNK
         ));
         let joined = lines.join("\n    ∷ ");
@@ -445,21 +572,20 @@ pub fn specs_module(lines: &[String], seed: u64) -> String {
     text
 }
 
-/// The module of the proofs that every line passes.
+/// The module of the proofs that every line agrees.
 pub fn proofs_module(lines: &[String]) -> String {
     let chunks = lines.chunks(CHUNK).len();
     let names: Vec<String> = (0..chunks).map(|c| format!("compared{c}")).collect();
     let mut text = format!(
-        "-- Every line of the second implementation passes.\n\
+        "-- Every line of the second implementation agrees.\n\
          use lib.Dec.{{T}}\n\
-         use Rattle.model.specs.Examples.{{passAll}}\n\
-         use Rattle.compared.specs.Compared.{{{}}}\n",
+         use Rattle.compared.specs.Compared.{{allAgree, {}}}\n",
         names.join(", ")
     );
     for name in names {
         text.push_str(&format!(
-            "\n-- The lines of {name} pass.\npub {name}-passes : T (passAll {name})\n\
-             unfolding passAll {name}\n{name}-passes = tt\n"
+            "\n-- The lines of {name} agree.\npub {name}-agree : T (allAgree {name})\n\
+             unfolding allAgree {name}\n{name}-agree = tt\n"
         ));
     }
     text

@@ -1,10 +1,10 @@
-//! The listing: the text that the program writes for a table file and a run file (01, Listing).
+//! The listing: the text that the program writes for a table file and a run file (01, Listing; 02, No. 2).
 
 use crate::across::lifted;
 use crate::game::{markings_along, play, Game};
 use crate::lent::list_of;
 use crate::records::{steps_of_record, RUN};
-use crate::refusal::{require, Answer};
+use crate::refusal::{require, Answer, Refusal};
 use crate::table::read_table;
 use crate::unfolding::unfold;
 
@@ -43,9 +43,15 @@ fn lines(net_file: &[u8], run_file: &[u8]) -> Answer<Vec<String>> {
     Ok(lines)
 }
 
+/// The line of a refusal: its number and place, and for 11 and 12 the condition.
+fn refusal_line(refusal: Refusal) -> String {
+    let Refusal { number, place, by } = refusal;
+    let line = format!("refused {number} at {place}");
+    by.map_or(line.clone(), |condition| format!("{line} by {condition}"))
+}
+
 /// The text of the listing for the bytes of the two files; every line ends in a newline.
 pub fn listing(net_file: &[u8], run_file: &[u8]) -> String {
-    let lines = lines(net_file, run_file)
-        .unwrap_or_else(|refusal| vec![format!("refused {} at {}", refusal.number, refusal.place)]);
+    let lines = lines(net_file, run_file).unwrap_or_else(|refusal| vec![refusal_line(refusal)]);
     lines.iter().map(|line| format!("{line}\n")).collect()
 }

@@ -55,7 +55,7 @@ impl Plain {
 pub fn reached_unfolded(unfolding: &Unfolding, most: usize) -> Reached<Vec<bool>> {
     let fired = |marking: &Vec<bool>, event: usize| {
         let number = u16::try_from(event).ok()?;
-        fire(unfolding, marking, number, 0).ok()
+        fire(unfolding, marking, number).ok()
     };
     search(unfolding.start(), unfolding.events.len(), fired, most)
 }

@@ -56,9 +56,15 @@ fn counts(name: &str) -> Answer<(u128, u128)> {
     Ok((counts.conditions, counts.events))
 }
 
-/// A refusal.
+/// A refusal that no condition is told with.
 fn refused<T>(number: u8, place: usize) -> Answer<T> {
-    Err(Refusal { number, place })
+    Err(Refusal::at(number, place))
+}
+
+/// A refusal by a condition.
+fn refused_by<T>(number: u8, place: usize, condition: u16) -> Answer<T> {
+    let by = Some(condition);
+    Err(Refusal { number, place, by })
 }
 
 #[test]
@@ -69,7 +75,7 @@ fn net_a() {
     assert_eq!(end("net-a.txt", "round"), [2, 3]);
     assert_eq!(lifted("net-a.txt", "round"), Ok(vec![0, 2, 3, 2]));
     assert_eq!(end("net-a.txt", "empty"), [0]);
-    assert_eq!(lifted("net-a.txt", "early"), refused(11, 1));
+    assert_eq!(lifted("net-a.txt", "early"), refused_by(11, 1, 3));
     assert_eq!(lifted("net-a.txt", "unknown"), refused(10, 1));
     assert_eq!(lifted("net-a-marked.txt", "pair"), Ok(vec![0, 1]));
     assert_eq!(unfolded_end("net-a-marked.txt", "pair"), [2, 3, 4]);
@@ -159,7 +165,7 @@ fn the_changeover() {
         (steps[13].as_str(), in_ten_bits(13).as_str()),
         ("switch-off-a", "connect-b")
     );
-    assert_eq!(lifted("changeover.txt", "hasty"), refused(11, 11));
+    assert_eq!(lifted("changeover.txt", "hasty"), refused_by(11, 11, 13));
     assert_eq!(lifted("changeover.txt", "careful"), refused(15, 3));
 }
 

@@ -58,9 +58,15 @@ pub fn net_r() -> Vec<u8> {
     table_bytes(&net(&[0, 0, 1], &[(&[0], &[2]), (&[1, 2], &[])], &[0, 1]))
 }
 
-/// A refusal as an answer.
+/// A refusal that no condition is told with, as an answer.
 pub fn refused<T>(number: u8, place: usize) -> Answer<T> {
-    Err(Refusal { number, place })
+    Err(Refusal::at(number, place))
+}
+
+/// A refusal by a condition, as an answer: 11 or 12.
+pub fn refused_by<T>(number: u8, place: usize, condition: u16) -> Answer<T> {
+    let by = Some(condition);
+    Err(Refusal { number, place, by })
 }
 
 /// A marking as it is lent.

@@ -12,6 +12,7 @@ fn equal_seeds_give_equal_lines_of_every_kind() {
         "unfolded",
         "notUnfolded",
         "stops",
+        "stopsUnfolded",
         "fires",
         "plays",
         "notPlayed",
@@ -22,12 +23,36 @@ fn equal_seeds_give_equal_lines_of_every_kind() {
         "exchanges",
         "notExchanged",
     ];
-    let some = lines(80, 5);
-    assert_eq!(some, lines(80, 5));
+    let some = lines(88, 5);
+    assert_eq!(some, lines(88, 5));
     for kind in kinds {
-        assert!(some
-            .iter()
-            .any(|line| line.starts_with(&format!("{kind} (net "))));
+        let begins = format!("{kind} (net ");
+        let is_of = |line: &String| line.trim_start_matches("example (").starts_with(&begins);
+        assert!(some.iter().any(is_of), "{kind}");
+    }
+}
+
+#[test]
+fn refusals_11_and_12_are_told_with_their_condition() {
+    let some = lines(440, 5);
+    let ends = |kind: &str, end: &str| {
+        let begins = format!("{kind} (net ");
+        let shown = |line: &&String| line.starts_with(&begins) && line.contains(end);
+        some.iter().filter(shown).count()
+    };
+    for kind in ["stops", "stopsUnfolded"] {
+        assert!(ends(kind, " (some (lacks ") > 0 && ends(kind, " (some (meets ") > 0);
+        assert!(ends(kind, " (some unknown)") > 0 && ends(kind, " none") > 0);
+    }
+    for kind in ["notPlayed", "notLifted", "notProjected", "notExchanged"] {
+        let numbered = |number: u8| {
+            let line =
+                |line: &&String| line.starts_with(kind) && line.contains(&format!(" {number} "));
+            some.iter().filter(line).count()
+        };
+        assert!(numbered(11) > 0 && numbered(12) > 0);
+        assert!(ends(kind, " (some ") >= 20, "{kind}");
+        assert!(ends(kind, " none") > 0, "{kind}");
     }
 }
 
@@ -36,25 +61,28 @@ fn modules_go_in_chunks_of_fifty() {
     let some = lines(120, 1);
     assert!(specs_module(&some, 1).contains("compared2 ="));
     assert!(!specs_module(&some, 1).contains("compared3"));
-    assert!(proofs_module(&some).contains("compared2-passes = tt"));
+    assert!(proofs_module(&some).contains("compared2-agree = tt"));
 }
 
 #[test]
 fn the_limits_show_3_13_and_14() {
     let some = limit_lines();
     for (kind, end) in [
-        ("notLifted", "(replicate 4097 0) 3 0"),
-        ("notProjected", "(replicate 4097 0) 3 0"),
-        ("notExchanged", "(replicate 4097 0) 0 3 0"),
-        ("notUnfolded", " 14 0"),
-        ("notUnfolded", " 13 27"),
-        ("notUnfolded", " 13 28"),
-        ("notLifted", "[] 14 0"),
-        ("notProjected", "[] 14 0"),
-        ("counts", " 228 65535"),
-        ("counts", " 65535 65280"),
+        ("notLifted", "(replicate 4097 0) 3 0 none"),
+        ("notProjected", "(replicate 4097 0) 3 0 none"),
+        ("notExchanged", "(replicate 4097 0) 0 3 0 none"),
+        ("notUnfolded", " 14 0)"),
+        ("notUnfolded", " 13 27)"),
+        ("notUnfolded", " 13 28)"),
+        ("notLifted", "[] 14 0 none"),
+        ("notProjected", "[] 14 0 none"),
+        ("counts", " 228 65535)"),
+        ("counts", " 65535 65280)"),
     ] {
-        let shown = |line: &String| line.starts_with(kind) && line.ends_with(end);
+        let shown = |line: &String| {
+            let line = line.trim_start_matches("example (");
+            line.starts_with(kind) && line.ends_with(end)
+        };
         assert!(some.iter().any(shown), "{kind} {end}");
     }
 }

@@ -65,11 +65,11 @@ fn refusals_of_the_lift_take_the_place_of_all_lines() {
     );
     assert_eq!(
         listing(&net_a(&[0]), &run_file(&[0, 0])),
-        "refused 11 at 1\n"
+        "refused 11 at 1 by 0\n"
     );
     assert_eq!(
         listing(&net_a(&[0, 1]), &run_file(&[0])),
-        "refused 12 at 0\n"
+        "refused 12 at 0 by 1\n"
     );
     assert_eq!(listing(&net_b(), &run_file(&[0, 0])), "refused 15 at 1\n");
 }

@@ -11,3 +11,4 @@ mod properties;
 mod readings;
 mod records;
 mod refusals;
+mod stops;

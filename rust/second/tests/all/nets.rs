@@ -59,8 +59,8 @@ fn net_a_from_0_2_lifts_0_1_by_the_start() {
 #[test]
 fn net_a_stops_with_12_and_11() {
     let table = net_a(&[0]);
-    assert_eq!(fire(&table, &lent(4, &[0, 1]), 0), refused(12, 0));
-    assert_eq!(fire(&table, &lent(4, &[1]), 1), refused(11, 0));
+    assert_eq!(fire(&table, &lent(4, &[0, 1]), 0), refused_by(12, 1, 1));
+    assert_eq!(fire(&table, &lent(4, &[1]), 1), refused_by(11, 2, 2));
 }
 
 #[test]

@@ -171,7 +171,7 @@ fn the_doubled_net_fires_as_the_unfolded_net_at_any_marking() {
         for b in unfolding.event(number).unwrap().preconditions {
             marking[usize::from(b)] = true;
         }
-        let after = fire(&unfolding, &marking, number, 0);
+        let after = fire(&unfolding, &marking, number);
         let plain_after = plain.fired(&doubled_marking(&marking), usize::from(number));
         let expected = after.as_ref().ok().map(|after| doubled_marking(after));
         assert_eq!(plain_after, expected);

@@ -119,10 +119,7 @@ fn a_lift_is_refused_exactly_at_the_first_repeat() {
         let repeats = |step: &usize| marks(run[*step]) && run[..*step].contains(&run[*step]);
         let expected = (0..run.len()).find(repeats);
         let answer = lift(&table_bytes(&net), &run);
-        assert_eq!(
-            answer.err(),
-            expected.map(|place| Refusal { number: 15, place })
-        );
+        assert_eq!(answer.err(), expected.map(|place| Refusal::at(15, place)));
         refusals += usize::from(expected.is_some());
     }
     assert!(refusals > 100);

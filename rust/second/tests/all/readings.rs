@@ -39,8 +39,8 @@ fn all_steps_come_before_a_repeat() {
     assert_eq!(lift(&table, &[0, 0, 1, 1, 0, 1, 1, 2]), refused(10, 7));
     let events: [(&[u16], &[u16]); 3] = [(&[], &[0]), (&[0], &[1]), (&[2], &[])];
     let table = table_bytes(&net(&[1, 0, 0], &events, &[]));
-    assert_eq!(lift(&table, &[0, 0, 1, 1]), refused(12, 3));
-    assert_eq!(lift(&table, &[0, 0, 1, 2]), refused(11, 3));
+    assert_eq!(lift(&table, &[0, 0, 1, 1]), refused_by(12, 3, 1));
+    assert_eq!(lift(&table, &[0, 0, 1, 2]), refused_by(11, 3, 2));
     assert_eq!(lift(&table, &[0, 0, 1, 0]), refused(15, 1));
 }
 
@@ -130,7 +130,7 @@ fn refusal_13_comes_before_14() {
 fn the_persistent_premise_alone_gives_17() {
     assert_eq!(exchange(&net_r(), &[0, 1], 0), refused(17, 0));
     assert_eq!(exchange(&net_r(), &[0, 1], 1), refused(10, 1));
-    assert_eq!(exchange(&net_r(), &[1, 0], 0), refused(11, 0));
+    assert_eq!(exchange(&net_r(), &[1, 0], 0), refused_by(11, 0, 2));
 }
 
 #[test]

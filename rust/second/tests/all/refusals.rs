@@ -1,4 +1,4 @@
-//! Each refusal number with its place, and which comes first (01, Refusal numbers).
+//! Each refusal number with its place, and which comes first (01, Refusal numbers); 11 and 12 with their condition (02, No. 2).
 
 use second::calls;
 use second::records::{record_bytes, word_bytes, CONDITIONS, EVENT, MARKING};
@@ -189,32 +189,67 @@ fn conditions_have_numbers_with_the_right_marker_and_user_only() {
 #[test]
 fn refusal_11_is_a_precondition_that_does_not_hold() {
     let table = net_a(&[0]);
-    assert_eq!(replay(&table, &[0, 2]), refused(11, 1));
-    assert_eq!(lift(&table, &[1]), refused(11, 0));
-    assert_eq!(project(&table, &[0, 1]), refused(11, 1));
-    assert_eq!(fire_unfolded(&table, &lent(5, &[1]), 1), refused(11, 0));
-    assert_eq!(exchange(&table, &[0, 2], 5), refused(11, 1));
+    assert_eq!(replay(&table, &[0, 2]), refused_by(11, 1, 3));
+    assert_eq!(lift(&table, &[1]), refused_by(11, 0, 1));
+    assert_eq!(lifted_end(&table, &[1]), refused_by(11, 0, 1));
+    assert_eq!(project(&table, &[0, 1]), refused_by(11, 1, 2));
+    assert_eq!(replay_unfolded(&table, &[0, 1]), refused_by(11, 1, 2));
+    assert_eq!(
+        fire_unfolded(&table, &lent(5, &[1]), 1),
+        refused_by(11, 2, 2)
+    );
+    assert_eq!(exchange(&table, &[0, 2], 5), refused_by(11, 1, 3));
 }
 
 #[test]
 fn refusal_12_is_contact() {
     let table = net_a(&[0, 1]);
-    assert_eq!(replay(&table, &[0]), refused(12, 0));
-    assert_eq!(lift(&table, &[0]), refused(12, 0));
-    assert_eq!(exchange(&table, &[0], 0), refused(12, 0));
-    assert_eq!(project(&net_b(), &[0, 0]), refused(12, 1));
+    assert_eq!(replay(&table, &[0]), refused_by(12, 0, 1));
+    assert_eq!(lift(&table, &[0]), refused_by(12, 0, 1));
+    assert_eq!(lifted_end(&table, &[0]), refused_by(12, 0, 1));
+    assert_eq!(exchange(&table, &[0], 0), refused_by(12, 0, 1));
+    assert_eq!(project(&net_b(), &[0, 0]), refused_by(12, 1, 2));
+    assert_eq!(replay_unfolded(&net_b(), &[0, 0]), refused_by(12, 1, 2));
     assert_eq!(
         fire_unfolded(&net_a(&[0]), &lent(5, &[0, 3]), 0),
-        refused(12, 0)
+        refused_by(12, 3, 3)
     );
+}
+
+#[test]
+fn the_lowest_condition_at_fault_is_told() {
+    let events: [(&[u16], &[u16]); 2] = [(&[0, 1, 3], &[2, 4, 5]), (&[4], &[0, 1, 2, 4, 5])];
+    let table = table_bytes(&net(&[0, 1, 1, 0, 0, 0], &events, &[]));
+    assert_eq!(fire(&table, &lent(6, &[0]), 0), refused_by(11, 1, 1));
+    assert_eq!(fire(&table, &lent(6, &[0, 1]), 0), refused_by(11, 3, 3));
+    assert_eq!(
+        fire(&table, &lent(6, &[0, 1, 2, 3, 4, 5]), 0),
+        refused_by(12, 4, 4)
+    );
+    assert_eq!(fire(&table, &lent(6, &[]), 0), refused_by(11, 0, 0));
+    assert_eq!(
+        fire(&table, &lent(6, &[0, 1, 2, 4]), 1),
+        refused_by(12, 0, 0)
+    );
+    assert_eq!(
+        fire(&table, &lent(6, &[1, 2, 4, 5]), 1),
+        refused_by(12, 5, 5)
+    );
+    assert_eq!(replay(&table, &[1]), refused_by(11, 0, 4));
 }
 
 #[test]
 fn refusal_11_wins_over_12() {
     let table = net_a(&[0]);
-    assert_eq!(fire(&table, &lent(4, &[1, 3]), 1), refused(11, 0));
-    assert_eq!(fire_unfolded(&table, &lent(5, &[1, 4]), 1), refused(11, 0));
-    assert_eq!(replay_from(&table, &lent(4, &[1]), &[0]), refused(11, 0));
+    assert_eq!(fire(&table, &lent(4, &[1, 3]), 1), refused_by(11, 2, 2));
+    assert_eq!(
+        fire_unfolded(&table, &lent(5, &[1, 4]), 1),
+        refused_by(11, 2, 2)
+    );
+    assert_eq!(
+        replay_from(&table, &lent(4, &[1]), &[0]),
+        refused_by(11, 0, 0)
+    );
 }
 
 #[test]
@@ -292,7 +327,7 @@ fn refusal_16_comes_after_all_others() {
     );
     assert_eq!(
         written(7, 0, |out| calls::replay(&net_b(), &[1], out)),
-        refused(11, 0)
+        refused_by(11, 0, 1)
     );
     assert_eq!(
         written(7, 0, |out| calls::project(&net_b(), &[9], out)),
