@@ -9,10 +9,10 @@
  *   3       bytes of the output that is lent
  *   4 to 7  the numbers that are asked, in the order of the call's arguments
  *   8 to 11 what the single values hold before the call, in the order of the call's arguments
- * An answer is seven words, then two pieces:
- *   0, 1    the call's number and place
- *   2 to 5  what the single values hold after it
- *   6       1 if the table and the memory around the other two pieces are as they were, else 0
+ * An answer is eight words, then two pieces:
+ *   0 to 2  the call's number, place and condition
+ *   3 to 6  what the single values hold after it
+ *   7       1 if the table and the memory around the other two pieces are as they were, else 0
  * and the bytes of what was given and of what was lent, whole, as the call left them.
  *
  * Answers are held back until no request is left to read, so that many can be sent at once.
@@ -32,7 +32,7 @@ void *memset(void *to, int byte, size_t count);
 int memcmp(const void *one, const void *other, size_t count);
 void _exit(int status) __attribute__((noreturn));
 
-enum { REQUEST_WORDS = 12, ANSWER_WORDS = 7, NUMBERS = 4, VALUES = 8 };
+enum { REQUEST_WORDS = 12, ANSWER_WORDS = 8, NUMBERS = 4, VALUES = 8 };
 
 /* A piece of a request, with room on both sides that no call may touch. */
 struct piece {
@@ -198,7 +198,7 @@ int main(void) {
         if (!take_table(request[1]) || !take_piece(&given, request[2]) || !take_piece(&lent, request[3])) return 1;
         uint64_t *values = request + VALUES;
         struct dovetrellis_answer a = call(request[0], request + NUMBERS, values);
-        uint64_t answer[ANSWER_WORDS] = {a.number, a.place, values[0], values[1], values[2], values[3], kept()};
+        uint64_t answer[ANSWER_WORDS] = {a.number, a.place, a.by, values[0], values[1], values[2], values[3], kept()};
         put(answer, sizeof answer);
         put(given.bytes, given.count);
         put(lent.bytes, lent.count);

@@ -1,5 +1,5 @@
 /*
- * Asks the library about one table, from C: judges it, fires an event, lifts a run, and shows a refusal.
+ * Asks the library about one table, from C: judges it, fires an event, lifts a run, and shows refusals.
  *
  * On x86-64, at the top of the repository:
  *
@@ -26,13 +26,15 @@ static const uint8_t table[] = {
     0x02, 0x00, 0x03, 0x00, 0x00, 0x00,
 };
 
-/* Tells how a call went; true where it worked. */
+/* Tells how a call went; true where it worked. Only 11 and 12 come with a condition. */
 static bool worked(const char *what, struct dovetrellis_answer answer) {
     if (answer.number == 0) {
         printf("%s: worked\n", what);
         return true;
     }
-    printf("%s: refused %" PRIu64 " at %" PRIu64 "\n", what, answer.number, answer.place);
+    printf("%s: refused %" PRIu64 " at %" PRIu64, what, answer.number, answer.place);
+    if (answer.number == 11 || answer.number == 12) printf(" by condition %" PRIu64, answer.by);
+    printf("\n");
     return false;
 }
 
@@ -53,8 +55,12 @@ int main(void) {
     if (!worked("lift 0,1,2,1", dovetrellis_lift(table, sizeof table, run, 4, lifted, 4))) return 1;
     printf("lifted: %d,%d,%d,%d\n", lifted[0], lifted[1], lifted[2], lifted[3]);
 
-    /* condition 0 no longer holds, so event 0 is refused, and the marking stays as it is */
-    worked("fire 0 again", dovetrellis_fire(table, sizeof table, marking, 4, 0));
+    /* condition 3 does not hold, so event 2 is refused at it, and the marking stays as it is */
+    worked("fire 2", dovetrellis_fire(table, sizeof table, marking, 4, 2));
+
+    /* in a run the place is the step, and the condition stands beside it */
+    const uint16_t early[] = {0, 2};
+    worked("lift 0,2", dovetrellis_lift(table, sizeof table, early, 2, lifted, 4));
 
     /* an output that is too short is refused with the number of elements that are needed */
     worked("lift into three", dovetrellis_lift(table, sizeof table, run, 4, lifted, 3));

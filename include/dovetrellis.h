@@ -14,6 +14,9 @@
  *
  * What every call does:
  * - It answers with number 0 and place 0 where it worked, else with a refusal's number and its place.
+ * - Beside 11 and 12 it tells the condition that stopped the step: for 11 the lowest precondition that does not hold, for 12 the lowest
+ *   ordinary condition in contact. It is a condition of the table, but an unfolded condition in unfolded_fire, project and
+ *   unfolded_replay, where unfolded events are fired.
  * - Where it refuses, nothing that was lent is changed, and neither are the single values.
  * - Where it worked, a lent output has its answer from the first element on, and everything past the answer stays. A longer output
  *   than needed is fine. Single values (the pointers at the end) are written only then.
@@ -32,8 +35,8 @@
  *    9  bytes after the last record                              their offset
  *   10  no such event, condition, marker, colour, step           0; in a run, the step
  *       or element
- *   11  a precondition does not hold                             0; in a run, the step
- *   12  contact                                                  0; in a run, the step
+ *   11  a precondition does not hold                             the condition; in a run, the step
+ *   12  contact                                                  the condition; in a run, the step
  *   13  an event touches nothing once unfolded                   the lowest such event
  *   14  over 65,535 unfolded conditions or events                0
  *   15  an event with a persistent postcondition comes twice     the first step at which such an event comes again
@@ -59,10 +62,14 @@
 extern "C" {
 #endif
 
-/* What every call answers: 0 and 0 where it worked, else a refusal. */
+/*
+ * What every call answers: 0 and 0 where it worked, else a refusal. With 11 and 12, and with no other number, `by` is the condition
+ * that stopped the step. Elsewhere it is 0 and means nothing; 0 is a condition too, so the number tells whether there is one.
+ */
 struct dovetrellis_answer {
     uint64_t number;
     uint64_t place;
+    uint64_t by;
 };
 
 /* A marker is the number of the event that marked, or this: the condition held at the start. */
@@ -91,12 +98,12 @@ struct dovetrellis_answer dovetrellis_start(const uint8_t *table, size_t table_l
 
 /*
  * Whether an event can fire at a marking: it worked if it can, else the refusals of firing. Nothing is written.
- * Refusals: the table's, 18, 10, 11, 12.
+ * Refusals: the table's, 18, 10, 11 and 12 at the condition.
  */
 struct dovetrellis_answer dovetrellis_can_fire(const uint8_t *table, size_t table_length, const uint8_t *marking,
                                                size_t marking_length, uint16_t event);
 
-/* Fires an event: the new marking is written over the lent one. Refusals: the table's, 18, 10, 11, 12. */
+/* Fires an event: the new marking is written over the lent one. Refusals: the table's, 18, 10, 11 and 12 at the condition. */
 struct dovetrellis_answer dovetrellis_fire(const uint8_t *table, size_t table_length, uint8_t *marking, size_t marking_length,
                                            uint16_t event);
 
@@ -171,7 +178,7 @@ struct dovetrellis_answer dovetrellis_unfolded_start(const uint8_t *table, size_
 
 /*
  * Fires an unfolded event: the new unfolded marking is written over the lent one.
- * Refusals: the table's, 13, 14, 18 (counts unfolded conditions), 10, 11, 12.
+ * Refusals: the table's, 13, 14, 18 (counts unfolded conditions), 10, 11 and 12 at the unfolded condition.
  */
 struct dovetrellis_answer dovetrellis_unfolded_fire(const uint8_t *table, size_t table_length, uint8_t *marking,
                                                     size_t marking_length, uint16_t unfolded);

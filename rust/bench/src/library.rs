@@ -6,6 +6,7 @@
 pub struct Answer {
     pub number: u64,
     pub place: u64,
+    pub by: u64,
 }
 
 extern "C" {

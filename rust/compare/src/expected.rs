@@ -204,6 +204,7 @@ pub fn expected(request: &Request) -> Reply {
         reply: Reply {
             number: 0,
             place: 0,
+            by: 0,
             values: request.values,
             kept: true,
             given: request.given.clone(),
@@ -219,6 +220,7 @@ pub fn expected(request: &Request) -> Reply {
     if let Err(refusal) = made {
         making.reply.number = u64::from(refusal.number);
         making.reply.place = refusal.place as u64;
+        making.reply.by = refusal.by.map_or(0, u64::from);
     }
     making.reply
 }

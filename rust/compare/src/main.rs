@@ -117,8 +117,8 @@ fn shown(bytes: &[u8]) -> String {
 /// One reply as text, without what it shares with the other.
 fn reply_text(reply: &Reply, other: &Reply) -> String {
     let mut text = format!(
-        "number {} place {} values {:?} kept {}",
-        reply.number, reply.place, reply.values, reply.kept
+        "number {} place {} by {} values {:?} kept {}",
+        reply.number, reply.place, reply.by, reply.values, reply.kept
     );
     if reply.given != other.given {
         text.push_str(&format!("\n    given {}", shown(&reply.given)));

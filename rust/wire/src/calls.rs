@@ -67,7 +67,10 @@ pub fn whole<T: Default + Clone>(
 ) -> Answer<Vec<T>> {
     let mut output = vec![T::default(); first];
     let mut answer = call(&mut output);
-    if let Err(Failure::Refused(Refusal { number: 16, place })) = answer {
+    if let Err(Failure::Refused(Refusal {
+        number: 16, place, ..
+    })) = answer
+    {
         output.resize(place as usize, T::default());
         answer = call(&mut output);
     }
@@ -87,6 +90,7 @@ impl Driver {
             number => Err(Failure::Refused(Refusal {
                 number,
                 place: reply.place,
+                by: matches!(number, 11 | 12).then_some(reply.by),
             })),
         }
     }

@@ -16,11 +16,23 @@ use std::fmt;
 /// The marker that says that a condition held at the start; any other marker is an event's number.
 pub const START: u32 = u32::MAX;
 
-/// A refusal: its number and its place.
+/// A refusal: its number and its place, and with 11 and 12 alone the condition that stopped the step.
 #[derive(Clone, Copy, Debug, PartialEq, Eq)]
 pub struct Refusal {
     pub number: u64,
     pub place: u64,
+    /// A condition of the table, or an unfolded one where unfolded events are fired.
+    pub by: Option<u64>,
+}
+
+impl fmt::Display for Refusal {
+    fn fmt(&self, f: &mut fmt::Formatter) -> fmt::Result {
+        write!(f, "refused {} at {}", self.number, self.place)?;
+        match self.by {
+            Some(condition) => write!(f, " by {condition}"),
+            None => Ok(()),
+        }
+    }
 }
 
 /// Why a call gave no answer.
@@ -38,7 +50,7 @@ pub type Answer<T> = Result<T, Failure>;
 impl fmt::Display for Failure {
     fn fmt(&self, f: &mut fmt::Formatter) -> fmt::Result {
         match self {
-            Failure::Refused(Refusal { number, place }) => write!(f, "refused {number} at {place}"),
+            Failure::Refused(refusal) => refusal.fmt(f),
             Failure::Lost(what) => write!(f, "{what}"),
         }
     }

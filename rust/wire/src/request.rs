@@ -106,6 +106,8 @@ pub struct Request {
 pub struct Reply {
     pub number: u64,
     pub place: u64,
+    /// The condition that stopped a step where the number is 11 or 12, else 0.
+    pub by: u64,
     /// What the single values hold after the call.
     pub values: [u64; 4],
     /// The table is as it was, and so is the memory around what was given and lent.
@@ -160,7 +162,7 @@ impl Request {
 
     /// Reads the reply to this request.
     pub(crate) fn receive(&self, from: &mut impl Read) -> io::Result<Reply> {
-        let mut words = [0; 7];
+        let mut words = [0; 8];
         for word in &mut words {
             let mut bytes = [0; 8];
             from.read_exact(&mut bytes)?;
@@ -169,8 +171,9 @@ impl Request {
         let mut reply = Reply {
             number: words[0],
             place: words[1],
-            values: [words[2], words[3], words[4], words[5]],
-            kept: words[6] == 1,
+            by: words[2],
+            values: [words[3], words[4], words[5], words[6]],
+            kept: words[7] == 1,
             given: vec![0; self.given.len()],
             lent: vec![0; self.lent.len()],
         };

@@ -1,6 +1,8 @@
 //! The nets and limits of the requirements, asked of the library through the driver that the environment names.
 
-use wire::{whole, Answer, ConditionOrigin, Copy, Counts, Driver, Failure, Refusal, START};
+use wire::{
+    whole, Answer, Call, ConditionOrigin, Copy, Counts, Driver, Failure, Refusal, Request, START,
+};
 
 /// A record with a header.
 fn record(kind: u16, payload: &[u8]) -> Vec<u8> {
@@ -62,8 +64,16 @@ fn driver() -> Driver {
     Driver::open().expect("DOVETRELLIS_DRIVER names the driver, as .ci/run does")
 }
 
+/// A refusal that no condition is told with.
 fn refused<T>(number: u64, place: u64) -> Answer<T> {
-    Err(Failure::Refused(Refusal { number, place }))
+    let by = None;
+    Err(Failure::Refused(Refusal { number, place, by }))
+}
+
+/// A refusal by a condition: 11 or 12.
+fn refused_by<T>(number: u64, place: u64, condition: u64) -> Answer<T> {
+    let by = Some(condition);
+    Err(Failure::Refused(Refusal { number, place, by }))
 }
 
 /// The conditions that hold in a marking.
@@ -106,8 +116,14 @@ fn net_a_is_judged_and_played() {
     assert_eq!(driver.can_fire(&table, &marking, 0), Ok(()));
     assert_eq!(driver.fire(&table, &mut marking, 0), Ok(()));
     assert_eq!(marking, [0, 1, 1, 0]);
-    assert_eq!(driver.fire(&table, &mut [1, 1, 0, 0], 0), refused(12, 0));
-    assert_eq!(driver.fire(&table, &mut [0, 1, 0, 0], 1), refused(11, 0));
+    assert_eq!(
+        driver.fire(&table, &mut [1, 1, 0, 0], 0),
+        refused_by(12, 1, 1)
+    );
+    assert_eq!(
+        driver.fire(&table, &mut [0, 1, 0, 0], 1),
+        refused_by(11, 2, 2)
+    );
     assert_eq!(driver.fire(&table, &mut [0, 1, 0], 1), refused(18, 4));
     let mut end = [9; 5];
     assert_eq!(driver.replay(&table, &[0, 1, 2, 1], &mut end), Ok(()));
@@ -193,6 +209,79 @@ fn net_a_is_lifted_and_projected() {
     let other = net_a(&[0, 2]);
     assert_eq!(lifted(&mut driver, &other, &[0, 1]), Ok(vec![0, 1]));
     assert_eq!(lifted_end(&mut driver, &other, &[0, 1]), Ok(vec![2, 3, 4]));
+}
+
+#[test]
+fn a_firing_is_stopped_at_a_condition() {
+    let (mut driver, table) = (driver(), net_a(&[0]));
+    for (marking, event, expected) in [
+        ([1, 1, 0, 0], 0, refused_by(12, 1, 1)),
+        ([0, 1, 0, 0], 1, refused_by(11, 2, 2)),
+        ([0, 0, 0, 1], 1, refused_by(11, 1, 1)),
+        ([0, 1, 1, 1], 0, refused_by(11, 0, 0)),
+        ([1, 1, 0, 0], 3, refused(10, 0)),
+    ] {
+        assert_eq!(driver.can_fire(&table, &marking, event), expected);
+        let mut lent = marking;
+        assert_eq!(driver.fire(&table, &mut lent, event), expected);
+        assert_eq!(lent, marking);
+    }
+    for (marking, unfolded, expected) in [
+        ([0, 1, 0, 0, 0], 1, refused_by(11, 2, 2)),
+        ([0, 0, 0, 0, 0], 1, refused_by(11, 1, 1)),
+        ([1, 0, 0, 1, 0], 0, refused_by(12, 3, 3)),
+        ([1, 1, 0, 1, 0], 0, refused_by(12, 1, 1)),
+        ([1, 1, 0, 1, 0], 4, refused(10, 0)),
+    ] {
+        let mut lent = marking;
+        assert_eq!(driver.unfolded_fire(&table, &mut lent, unfolded), expected);
+        assert_eq!(lent, marking);
+    }
+}
+
+/// Every call on a run of the table that is refused at a step.
+fn stopped_run(driver: &mut Driver, table: &[u8], run: &[u16], expected: Answer<()>) {
+    assert_eq!(driver.replay(table, run, &mut [9; 9]), expected);
+    assert_eq!(driver.exchange(table, &mut run.to_vec(), 0), expected);
+    assert_eq!(driver.lift(table, run, &mut [9; 9]), expected);
+    assert_eq!(driver.lift_end(table, run, &mut [9; 9]), expected);
+}
+
+/// Every call on a run of unfolded events that is refused at a step.
+fn stopped_unfolded(driver: &mut Driver, table: &[u8], lifted: &[u16], expected: Answer<()>) {
+    assert_eq!(driver.project(table, lifted, &mut [9; 9]), expected);
+    assert_eq!(driver.unfolded_replay(table, lifted, &mut [9; 9]), expected);
+}
+
+#[test]
+fn a_run_is_stopped_at_a_step_by_a_condition() {
+    let mut driver = driver();
+    let table = net_a(&[0]);
+    stopped_run(&mut driver, &table, &[0, 2], refused_by(11, 1, 3));
+    stopped_run(&mut driver, &table, &[1], refused_by(11, 0, 1));
+    stopped_run(&mut driver, &table, &[0, 1, 1], refused_by(11, 2, 1));
+    stopped_run(&mut driver, &table, &[0, 0], refused_by(11, 1, 0));
+    stopped_run(&mut driver, &table, &[0, 3], refused(10, 1));
+    stopped_run(&mut driver, &net_a(&[0, 1]), &[0], refused_by(12, 0, 1));
+    let both = net_a(&[0, 3]);
+    stopped_run(&mut driver, &both, &[0, 2], refused_by(12, 1, 1));
+    stopped_unfolded(&mut driver, &table, &[0, 1], refused_by(11, 1, 2));
+    stopped_unfolded(&mut driver, &table, &[0, 2, 2], refused_by(11, 2, 1));
+    stopped_unfolded(&mut driver, &table, &[0, 4], refused(10, 1));
+    stopped_unfolded(&mut driver, &both, &[0, 2], refused_by(12, 1, 4));
+    stopped_unfolded(&mut driver, &net_b(), &[0, 0], refused_by(12, 1, 2));
+}
+
+#[test]
+fn no_condition_is_told_with_any_other_number() {
+    let mut driver = driver();
+    let mut request = Request::new(Call::Replay, &net_a(&[0]));
+    for (steps, lent, number) in [(&[0, 1][..], 4, 0), (&[0, 1], 3, 16), (&[0, 3], 4, 10)] {
+        request.given = bytes(steps);
+        request.lent = vec![9; lent];
+        let reply = driver.ask(&request).unwrap();
+        assert_eq!((reply.number, reply.by), (number, 0));
+    }
 }
 
 #[test]
