@@ -1,7 +1,7 @@
 //! A case: one request with everything that it gives and lends, made from the case's seed alone.
 
 use second::across::lifted;
-use second::game::Game;
+use second::game::{fire, play, Game, Stop};
 use second::generator::{any_marking, walk, Random, Walk};
 use second::records::{record_bytes, word_bytes, LIFTED, MOST_STEPS, RUN};
 use second::table::{Event, Net};
@@ -48,6 +48,9 @@ const OFTEN: [(Call, usize); 28] = [
 
 /// Unfolded nets of at most this many events are walked in; in larger ones, runs are lifted.
 const WALKED_EVENTS: u128 = 60;
+
+/// So many steps of a run, and as many other events, are tried for one that is stopped in a wanted way.
+const TRIED: usize = 30;
 
 /// A call, each as often as it is to come.
 fn any_call(random: &mut Random) -> Call {
@@ -120,9 +123,43 @@ fn any_run(random: &mut Random, net: &Net) -> Vec<u16> {
             run = (0..steps).map(|_| random.word()).collect();
         }
         4..=9 => change_step(random, &mut run, events),
+        10..=19 => {
+            let kind = [(11, false), (11, true), (12, false)][random.below(3)];
+            let lasting = |b: u16| net.persistent[usize::from(b)];
+            let wanted = |stop| is_kind(stop, kind, lasting);
+            add_stopped(random, net, events, &mut run, wanted);
+        }
         _ => {}
     }
     run
+}
+
+/// A stop has this number, and its condition is persistent or a copy exactly if the kind says so.
+fn is_kind(stop: Stop, kind: (u8, bool), lasting: impl Fn(u16) -> bool) -> bool {
+    stop.number == kind.0 && stop.by.is_some_and(|b| lasting(b) == kind.1)
+}
+
+/// Adds a step that is stopped in a wanted way to a run that plays, if one of its own steps or of some other events is; now and then a step
+/// follows it that is not looked at.
+fn add_stopped<G: Game>(
+    random: &mut Random,
+    game: &G,
+    events: usize,
+    run: &mut Vec<u16>,
+    wanted: impl Fn(Stop) -> bool,
+) {
+    let Ok(end) = play(game, game.start(), run) else {
+        return;
+    };
+    let own = run.iter().rev().take(TRIED).copied();
+    let others = (0..TRIED).map(|_| random.below(events) as u16);
+    let tried: Vec<u16> = own.chain(others).collect();
+    let stopped = |e: &u16| fire(game, &end, *e).is_err_and(&wanted);
+    if let Some(step) = tried.into_iter().find(stopped) {
+        run.push(step);
+        run.extend(random.percent(30).then(|| random.word()));
+    }
+    run.truncate(MOST_STEPS);
 }
 
 /// Changes one step of a run to any number.
@@ -145,6 +182,15 @@ fn lifting_run(random: &mut Random, net: &Net, unfolding: &Unfolding) -> Vec<u16
     }
 }
 
+/// Adds an unfolded step that is stopped to a run that plays: often by contact at a copy, as where an event that marks comes again.
+fn stop_unfolded(random: &mut Random, unfolding: &Unfolding, run: &mut Vec<u16>) {
+    let kinds = [(11, false), (11, true), (12, false), (12, true), (12, true)];
+    let kind = kinds[random.below(kinds.len())];
+    let copy = |b: u16| unfolding.conditions[usize::from(b)].copy.is_some();
+    let (events, wanted) = (unfolding.events.len(), |stop| is_kind(stop, kind, copy));
+    add_stopped(random, unfolding, events, run, wanted);
+}
+
 /// A run of unfolded events, which mostly plays.
 fn any_unfolded_run(random: &mut Random, net: &Net) -> Vec<u16> {
     let Ok(unfolding) = unfold(net) else {
@@ -157,11 +203,16 @@ fn any_unfolded_run(random: &mut Random, net: &Net) -> Vec<u16> {
             arbitrary: [0, 0, 5, 30][random.below(4)],
             avoid_repeats: false,
         };
-        return walk(random, &unfolding, events, &way);
+        let mut run = walk(random, &unfolding, events, &way);
+        if random.percent(25) {
+            stop_unfolded(random, &unfolding, &mut run);
+        }
+        return run;
     }
     let mut run = lifting_run(random, net, &unfolding);
     match random.below(100) {
         0..=19 => change_step(random, &mut run, events),
+        34..=54 => stop_unfolded(random, &unfolding, &mut run),
         20..=29 => run.push(any_number(random, events)),
         30..=33 => {
             run.push(0);
@@ -194,9 +245,9 @@ fn marking_for(random: &mut Random, conditions: usize, event: Option<Event>) -> 
         event.postconditions.iter().for_each(|b| set(b, 0));
     }
     event.preconditions.iter().for_each(|b| set(b, 1));
-    let one = random.below(event.preconditions.len());
-    if let Some(b) = event.preconditions.get(one).filter(|_| random.percent(15)) {
-        set(b, 0);
+    for _ in 0..[0, 0, 0, 0, 0, 1, 3][random.below(7)] {
+        let one = random.below(event.preconditions.len());
+        event.preconditions.get(one).iter().for_each(|b| set(b, 0));
     }
     marking
 }

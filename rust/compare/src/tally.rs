@@ -1,12 +1,47 @@
-//! What was seen: how often each call gave each refusal, and whether any was missed.
+//! What was seen: how often each call gave each refusal, by which kind of condition, and whether any was missed.
 
 use std::collections::BTreeMap;
 
-use second::calls::judge;
+use second::calls::{condition_behind, is_persistent, judge};
 use wire::{Call, Reply, Request};
 
-/// What a call came to: 0 or a refusal's number, and whether a 3 is that of a run's length and not of a record of the table.
-type Outcome = (u64, bool);
+/// What is told of an outcome beside its number.
+#[derive(Clone, Copy, PartialEq, Eq, PartialOrd, Ord)]
+enum More {
+    Nothing,
+    /// A 3 is that of a run's length, and not of a record of the table.
+    OfRun,
+    /// An 11 or 12 is by such a condition.
+    Ordinary,
+    Persistent,
+    Copy,
+}
+
+impl More {
+    /// In words, after the number.
+    fn text(self) -> &'static str {
+        match self {
+            More::Nothing => "",
+            More::OfRun => " of the run",
+            More::Ordinary => " by an ordinary condition",
+            More::Persistent => " by a persistent condition",
+            More::Copy => " by a copy",
+        }
+    }
+}
+
+/// What a call came to: 0 or a refusal's number, and what is told beside it.
+type Outcome = (u64, More);
+
+/// Every number and kind of condition that a step can be stopped by, with the words above its column; a persistent condition of the
+/// table makes no contact.
+const STOPS: [(u64, More, &str); 5] = [
+    (11, More::Ordinary, "11 ordinary"),
+    (11, More::Persistent, "11 persistent"),
+    (11, More::Copy, "11 copy"),
+    (12, More::Ordinary, "12 ordinary"),
+    (12, More::Copy, "12 copy"),
+];
 
 /// The refusals of a table.
 const TABLE: [u64; 9] = [1, 2, 3, 4, 5, 6, 7, 8, 9];
@@ -34,19 +69,73 @@ fn own_refusals(call: Call) -> &'static [u64] {
     }
 }
 
+/// A call fires unfolded events, so that unfolded conditions stop it.
+fn is_unfolded(call: Call) -> bool {
+    matches!(
+        call,
+        Call::UnfoldedFire | Call::Project | Call::UnfoldedReplay
+    )
+}
+
+/// A call can be stopped by conditions of this kind.
+fn can_stop(call: Call, kind: More) -> bool {
+    kind == More::Ordinary || (kind == More::Copy) == is_unfolded(call)
+}
+
+/// What a call can come to by one of its own refusals: 11 and 12 by each kind of condition.
+fn own_outcomes(call: Call, number: u64) -> Vec<Outcome> {
+    match number {
+        3 => vec![(3, More::OfRun)],
+        11 | 12 => STOPS
+            .iter()
+            .filter(|(stop, kind, _)| *stop == number && can_stop(call, *kind))
+            .map(|(stop, kind, _)| (*stop, *kind))
+            .collect(),
+        _ => vec![(number, More::Nothing)],
+    }
+}
+
 /// Everything that a call can come to.
 fn outcomes(call: Call) -> Vec<Outcome> {
-    let own = own_refusals(call).iter().map(|n| (*n, *n == 3));
-    let table = TABLE.iter().map(|n| (*n, false));
+    let own = own_refusals(call).iter();
+    let own = own.flat_map(|number| own_outcomes(call, *number));
+    let table = TABLE.iter().map(|n| (*n, More::Nothing));
     let table = table.filter(|_| !call.is_on_record());
-    [(0, false)].into_iter().chain(table).chain(own).collect()
+    let fine = [(0, More::Nothing)];
+    fine.into_iter().chain(table).chain(own).collect()
+}
+
+/// The kind of the condition that stopped a step.
+fn kind_of(request: &Request, by: u64) -> More {
+    let by = by as u16;
+    if is_unfolded(request.call) {
+        return match condition_behind(&request.table, by) {
+            Ok(behind) if behind.copy.is_none() => More::Ordinary,
+            _ => More::Copy,
+        };
+    }
+    match is_persistent(&request.table, by) {
+        Ok(false) => More::Ordinary,
+        _ => More::Persistent,
+    }
 }
 
 /// What one case came to.
 fn outcome(request: &Request, reply: &Reply) -> Outcome {
-    let of_run =
-        reply.number == 3 && (request.call.is_on_record() || judge(&request.table).is_ok());
-    (reply.number, of_run)
+    let more = match reply.number {
+        3 if request.call.is_on_record() || judge(&request.table).is_ok() => More::OfRun,
+        11 | 12 => kind_of(request, reply.by),
+        _ => More::Nothing,
+    };
+    (reply.number, more)
+}
+
+/// A count as it is shown: nothing where it is 0.
+fn shown(count: u64) -> String {
+    match count {
+        0 => String::new(),
+        count => count.to_string(),
+    }
 }
 
 /// How often each call came to each outcome.
@@ -64,11 +153,32 @@ impl Tally {
 
     /// How often a call came to a number.
     fn of(&self, call: Call, number: u64) -> u64 {
-        let both = [(call, (number, false)), (call, (number, true))];
-        both.iter().filter_map(|key| self.seen.get(key)).sum()
+        let (first, last) = ((number, More::Nothing), (number, More::Copy));
+        let seen = self.seen.range((call, first)..=(call, last));
+        seen.map(|(_, count)| count).sum()
     }
 
-    /// The table of counts: a row for each call, a column for each number.
+    /// The table of what stopped steps: a row for each call that fires, a column for each number and kind of condition.
+    fn stops_table(&self) -> String {
+        let mut text = format!("{:<18}", "stopped by");
+        STOPS
+            .iter()
+            .for_each(|(_, _, words)| text.push_str(&format!("{words:>15}")));
+        text.push('\n');
+        let fires = |(call, _): &(Call, &str)| own_refusals(*call).contains(&11);
+        for (call, name) in Call::ALL.into_iter().filter(fires) {
+            text.push_str(&format!("{name:<18}"));
+            for (number, kind, _) in STOPS {
+                let count = self.seen.get(&(call, (number, kind)));
+                text.push_str(&format!("{:>15}", shown(count.copied().unwrap_or(0))));
+            }
+            text.truncate(text.trim_end().len());
+            text.push('\n');
+        }
+        text
+    }
+
+    /// The tables of counts: a row for each call, a column for each number, and of 11 and 12 the conditions.
     pub fn table(&self) -> String {
         let mut text = format!("{:<18}{:>9}{:>9}", "call", "cases", "fine");
         (1..=18).for_each(|number| text.push_str(&format!("{number:>6}")));
@@ -77,16 +187,12 @@ impl Tally {
             let cases: u64 = (0..=18).map(|number| self.of(call, number)).sum();
             text.push_str(&format!("{name:<18}{cases:>9}{:>9}", self.of(call, 0)));
             for number in 1..=18 {
-                let count = match self.of(call, number) {
-                    0 => String::new(),
-                    count => count.to_string(),
-                };
-                text.push_str(&format!("{count:>6}"));
+                text.push_str(&format!("{:>6}", shown(self.of(call, number))));
             }
             text.truncate(text.trim_end().len());
             text.push('\n');
         }
-        text
+        text + &self.stops_table()
     }
 
     /// The outcomes that no case came to, of one call or of all, as text.
@@ -96,8 +202,8 @@ impl Tally {
         for (call, name) in Call::ALL.into_iter().filter(wanted) {
             for outcome in outcomes(call) {
                 if !self.seen.contains_key(&(call, outcome)) {
-                    let of = if outcome.1 { " of the run" } else { "" };
-                    missed.push(format!("{name} never came to {}{of}", outcome.0));
+                    let more = outcome.1.text();
+                    missed.push(format!("{name} never came to {}{more}", outcome.0));
                 }
             }
         }
@@ -107,7 +213,9 @@ impl Tally {
     /// The outcomes that came though the header does not list them, as text.
     pub fn unlisted(&self) -> Vec<String> {
         let listed = |key: &&(Call, Outcome)| !outcomes(key.0).contains(&key.1);
-        let told = |key: &(Call, Outcome)| format!("{} came to {}", key.0.name(), key.1 .0);
+        let told = |(call, (number, more)): &(Call, Outcome)| {
+            format!("{} came to {number}{}", call.name(), more.text())
+        };
         self.seen.keys().filter(listed).map(told).collect()
     }
 }

@@ -5,6 +5,7 @@ use std::collections::BTreeSet;
 use compare::case::case;
 use compare::elements::whole_export;
 use compare::expected::expected;
+use second::calls::{condition_behind, is_persistent};
 use second::generator::Random;
 use wire::{Call, Request};
 
@@ -78,6 +79,62 @@ fn a_refusal_is_expected_to_leave_everything() {
     let reply = expected(&request);
     assert_eq!((reply.number, reply.values), (0, [1, 1, 0, 0]));
     assert_eq!(reply.lent, [0, 0, 0, 0, 5, 5, 5, 5]);
+}
+
+#[test]
+fn a_stopped_step_is_expected_with_its_condition() {
+    let mut request = Request::new(Call::CanFire, &net_a());
+    request.numbers[0] = 1;
+    request.given = vec![0, 1, 0, 0];
+    let reply = expected(&request);
+    assert_eq!((reply.number, reply.place, reply.by), (11, 2, 2));
+    let mut request = Request::new(Call::Project, &net_a());
+    request.given = vec![0, 0, 1, 0];
+    let reply = expected(&request);
+    assert_eq!((reply.number, reply.place, reply.by), (11, 1, 2));
+    request.given = vec![0, 0, 4, 0];
+    let reply = expected(&request);
+    assert_eq!((reply.number, reply.place, reply.by), (10, 1, 0));
+}
+
+/// The calls that are stopped by a condition of the table, and those that are by an unfolded one.
+const STOPPED: [&[Call]; 2] = [
+    &[
+        Call::CanFire,
+        Call::Fire,
+        Call::Replay,
+        Call::Exchange,
+        Call::Lift,
+        Call::LiftEnd,
+    ],
+    &[Call::UnfoldedFire, Call::Project, Call::UnfoldedReplay],
+];
+
+#[test]
+fn steps_are_stopped_by_every_kind_of_condition() {
+    let mut seen = [[[0; 2]; 2]; 2];
+    for request in (0..20_000).map(|n| case(Random::new(n).draw())) {
+        let is_of = |calls: &&[Call]| calls.contains(&request.call);
+        let Some(unfolded) = STOPPED.iter().position(is_of) else {
+            continue;
+        };
+        let reply = expected(&request);
+        let by = reply.by as u16;
+        if !matches!(reply.number, 11 | 12) {
+            assert_eq!(by, 0);
+            continue;
+        }
+        let lasting = match unfolded {
+            0 => is_persistent(&request.table, by).unwrap(),
+            _ => condition_behind(&request.table, by).unwrap().copy.is_some(),
+        };
+        seen[unfolded][reply.number as usize - 11][usize::from(lasting)] += 1;
+    }
+    let [table, unfolded] = seen;
+    assert!(table[0].iter().all(|count| *count > 100), "{seen:?}");
+    assert!(table[1][0] > 100 && table[1][1] == 0, "{seen:?}");
+    let least = unfolded.iter().flatten().min();
+    assert!(least.is_some_and(|least| *least > 25), "{seen:?}");
 }
 
 #[test]
