@@ -51,9 +51,10 @@ dovetrellis: net tables with persistent conditions
   dovetrellis help [COMMAND]      this, or what it says of one command
 
 TABLE is a file of records (docs/FORMAT.md) or a text table (docs/TEXT.md); its bytes tell which.
-What is refused is answered by one line, 'refused NUMBER at PLACE', and what that means is said
-beside it, on the error output (docs/REFUSALS.md has the list). Of an export that is refused the
-line goes there too, so that no file of a net begins with it.
+What is refused is answered by one line, 'refused NUMBER at PLACE', with ' by CONDITION' after it
+where a condition stopped a step (11 and 12), and what that means is said beside it, on the error
+output (docs/REFUSALS.md has the list). Of an export that is refused the line goes there too, so
+that no file of a net begins with it.
 
 Exit status: 0 fine; 1 refused, or a text that is no table or no trace; 2 wrong use (no word at all
 is wrong use too), or something that is needed could not be read or built.

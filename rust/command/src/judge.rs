@@ -2,7 +2,7 @@
 
 use std::io::Write;
 
-use wire::{Driver, Failure, Refusal};
+use wire::{Driver, Failure};
 
 use crate::source::{self, RunSource, Source};
 use crate::stop::{Stop, Stopped, Told};
@@ -31,31 +31,13 @@ fn unfolding(library: &mut Driver, table: &Source) -> Stopped<String> {
     }
 }
 
-/// A refusal of a run in words, with the condition that stopped it.
-fn run_told(
-    library: &mut Driver,
-    table: &Source,
-    run: &RunSource,
-    refusal: Refusal,
-) -> Stopped<Told> {
-    let step = refusal.place as usize;
-    let mut by = None;
-    if let (11 | 12, Some(event)) = (refusal.number, run.steps.get(step)) {
-        let mut marking = vec![0; table.table.conditions.len()];
-        let before = library.replay(&table.bytes, &run.steps[..step], &mut marking);
-        before.map_err(|failure| table.failed(failure))?;
-        by = table.stopped_by(*event, &marking, refusal.number);
-    }
-    Ok(table.run_told(run, refusal, by))
-}
-
 /// How a run of a table fares: whether it plays, where it ends, and whether it lifts.
 fn run_fares(library: &mut Driver, table: &Source, run: &RunSource) -> Stopped<String> {
     let mut end = vec![0; table.table.conditions.len()];
     match library.replay(&table.bytes, &run.steps, &mut end) {
         Ok(()) => {}
         Err(Failure::Refused(refusal)) => {
-            return Ok(refused("", &run_told(library, table, run, refusal)?));
+            return Ok(refused("", &table.run_told(run, refusal)));
         }
         Err(lost) => return Err(table.failed(lost)),
     }
@@ -65,7 +47,7 @@ fn run_fares(library: &mut Driver, table: &Source, run: &RunSource) -> Stopped<S
     match library.lift(&table.bytes, &run.steps, &mut lifted) {
         Ok(()) => Ok(format!("{ends}, lifts")),
         Err(Failure::Refused(refusal)) if refusal.number == 15 => {
-            let told = run_told(library, table, run, refusal)?;
+            let told = table.run_told(run, refusal);
             Ok(refused(&format!("{ends}, does not lift: "), &told))
         }
         Err(Failure::Refused(_)) => Ok(format!(

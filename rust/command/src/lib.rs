@@ -1,7 +1,6 @@
 //! The command `dovetrellis`: lists, judges, unfolds, exports, packs and shows tables, and reads a checker's traces back. Every answer
 //! comes from the proved library, asked over its driver, or from the proved programs `list` and `export`; this crate finds the files,
-//! turns text into records and words what comes back. Only the condition that stopped a step it looks up by itself, in the marking
-//! that they gave.
+//! turns text into records and words what comes back.
 
 pub mod asked;
 pub mod export;

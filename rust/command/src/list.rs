@@ -13,31 +13,19 @@ use crate::tools;
 /// The record of a run without steps.
 const NO_STEPS: [u8; 4] = [0, 0, 4, 0];
 
-/// The refusal that the text of a program consists of, if it is one.
+/// The refusal that the text of a program consists of, if it is one; its condition comes last, where there is one.
 pub fn refusal_of(text: &str) -> Option<Refusal> {
-    let (number, place) = text
-        .strip_prefix("refused ")?
-        .trim_end()
-        .split_once(" at ")?;
+    let line = text.strip_prefix("refused ")?.trim_end();
+    let (number, rest) = line.split_once(" at ")?;
+    let (place, by) = match rest.split_once(" by ") {
+        Some((place, by)) => (place, Some(by.parse().ok()?)),
+        None => (rest, None),
+    };
     Some(Refusal {
         number: number.parse().ok()?,
         place: place.parse().ok()?,
+        by,
     })
-}
-
-/// The marking at the end of a listing, one byte for each of so many conditions.
-fn last_marking(listing: &str, conditions: usize) -> Option<Vec<u8>> {
-    let line = listing.lines().rev().nth(1)?;
-    let mut marking = vec![0; conditions];
-    let held = line
-        .rsplit(' ')
-        .next()?
-        .split(',')
-        .filter(|word| *word != "-");
-    for condition in held {
-        *marking.get_mut(condition.parse::<usize>().ok()?)? = 1;
-    }
-    Some(marking)
 }
 
 /// The listing of a table and the record of a run.
@@ -46,28 +34,12 @@ fn listed(table: &Source, run: &[u8]) -> Stopped<String> {
     listing(&mut program, &table.bytes, run).map_err(|error| Stop::Failed(error.to_string()))
 }
 
-/// The condition that stopped a step of a run: the steps before it are listed for the marking there.
-fn stopped_by(table: &Source, run: &RunSource, refusal: Refusal) -> Stopped<Option<String>> {
-    let step = refusal.place as usize;
-    let (11 | 12, Some(event)) = (refusal.number, run.steps.get(step)) else {
-        return Ok(None);
-    };
-    let before = text::Run {
-        steps: run.steps[..step].to_vec(),
-        ..text::Run::default()
-    };
-    let listing = listed(table, &before.bytes())?;
-    let marking = last_marking(&listing, table.table.conditions.len());
-    Ok(marking.and_then(|marking| table.stopped_by(*event, &marking, refusal.number)))
-}
-
 /// A refusal in place of a listing, told: it is the table's own where a run without steps is refused the same.
 fn refused(table: &Source, run: &RunSource, refusal: Refusal) -> Stopped<()> {
     if refusal_of(&listed(table, &NO_STEPS)?) == Some(refusal) {
         return Err(Stop::Refused(table.told(refusal)));
     }
-    let by = stopped_by(table, run, refusal)?;
-    Err(Stop::Refused(table.run_told(run, refusal, by)))
+    Err(Stop::Refused(table.run_told(run, refusal)))
 }
 
 /// The table is a file, or what is given for the run is none either; else the two words are likely exchanged.

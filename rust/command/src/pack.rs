@@ -61,7 +61,7 @@ fn steps_of(
 ) -> Stopped<Vec<u16>> {
     let steps = whole(MOST_STEPS, |steps| library.read_run(&run.bytes, steps));
     steps.map_err(|failure| match failure {
-        Failure::Refused(refusal) => Stop::Refused(table.run_told(run, refusal, None)),
+        Failure::Refused(refusal) => Stop::Refused(table.run_told(run, refusal)),
         lost => table.failed(lost),
     })
 }

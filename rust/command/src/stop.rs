@@ -16,9 +16,9 @@ pub struct Told {
 }
 
 impl Told {
-    /// The line that answers in place of anything else.
+    /// The line that answers in place of anything else: number and place, and for 11 and 12 the condition.
     pub fn line(&self) -> String {
-        format!("refused {} at {}", self.refusal.number, self.refusal.place)
+        self.refusal.to_string()
     }
 
     /// The two lines that say what it means and where it is.

@@ -53,6 +53,14 @@ pub fn meaning_with(number: u64, more: Option<&str>) -> String {
     }
 }
 
+/// Why a condition stopped a step, by the number of the refusal; the condition is put as it is called.
+pub fn stopped_by(number: u64, condition: &str) -> String {
+    match number {
+        11 => format!("{condition} does not hold, and the event needs it"),
+        _ => format!("{condition} still holds, and the event would set it again: contact"),
+    }
+}
+
 /// The conditions that hold in a marking.
 pub fn held(marking: &[u8]) -> Vec<u16> {
     let held = (0..=u16::MAX).zip(marking).filter(|(_, held)| **held == 1);
@@ -184,24 +192,10 @@ impl Source {
         }
     }
 
-    /// The condition that stops an event at a marking, by the number of its refusal, if the marking tells it.
-    pub fn stopped_by(&self, event: u16, marking: &[u8], number: u64) -> Option<String> {
-        let event = self.table.events.get(usize::from(event))?;
-        let holds = |b: &u16| marking.get(usize::from(*b)) == Some(&1);
-        let contact = |b: &&u16| {
-            holds(b) && !self.table.is_persistent(**b) && !event.preconditions.contains(b)
-        };
-        let (stopping, why) = match number {
-            11 => (
-                event.preconditions.iter().find(|b| !holds(b)),
-                "does not hold",
-            ),
-            12 => (event.postconditions.iter().find(contact), "holds already"),
-            _ => (None, ""),
-        };
-        let condition = *stopping?;
-        let name = self.table.condition_name(condition);
-        Some(format!("condition {} {why}", with_name(condition, &name)))
+    /// A condition of the table with its name.
+    pub fn condition_told(&self, number: u16) -> String {
+        let name = self.table.condition_name(number);
+        format!("condition {}", with_name(number, &name))
     }
 
     /// A refusal of the table, told.
@@ -216,12 +210,20 @@ impl Source {
         }
     }
 
-    /// A refusal of a run of this table, told with the condition that stopped it, if that is known.
-    pub fn run_told(&self, run: &RunSource, refusal: Refusal, by: Option<String>) -> Told {
-        let more = by.or_else(|| self.due_in_run(refusal.number));
+    /// What a refusal of a run of this table means: by which condition a step was stopped, or else what its number means.
+    fn run_meaning(&self, refusal: Refusal) -> String {
+        let Refusal { number, by, .. } = refusal;
+        match by {
+            Some(condition) => stopped_by(number, &self.condition_told(condition as u16)),
+            None => meaning_with(number, self.due_in_run(number).as_deref()),
+        }
+    }
+
+    /// A refusal of a run of this table, told.
+    pub fn run_told(&self, run: &RunSource, refusal: Refusal) -> Told {
         Told {
             refusal,
-            what: meaning_with(refusal.number, more.as_deref()),
+            what: self.run_meaning(refusal),
             place: self.step_told(run, refusal),
         }
     }

@@ -3,7 +3,7 @@
 use std::io::Write;
 
 use text::set_text;
-use wire::{whole, Answer, Driver, START};
+use wire::{whole, Answer, Copy, Driver, START};
 
 use crate::source::{self, Source};
 use crate::stop::Stopped;
@@ -58,7 +58,7 @@ pub fn unfolded_called(library: &mut Driver, table: &Source, number: u16) -> Ans
 }
 
 /// The two lists of an unfolded event.
-pub fn lists(library: &mut Driver, table: &Source, number: u16) -> Answer<[Vec<u16>; 2]> {
+fn lists(library: &mut Driver, table: &Source, number: u16) -> Answer<[Vec<u16>; 2]> {
     let bytes = &table.bytes;
     let pre = whole(ROOM, |out| library.unfolded_pre(bytes, number, out))?;
     let post = whole(ROOM, |out| library.unfolded_post(bytes, number, out))?;
@@ -72,17 +72,19 @@ fn event_line(library: &mut Driver, table: &Source, number: u16) -> Answer<Strin
     Ok(format!("{number}: {called}: {pre} -> {post}"))
 }
 
+/// Which copy of a condition it is: its marker and its user.
+pub fn copy_called(table: &Source, copy: Copy) -> String {
+    let marker = marker_called(table, copy.marker);
+    format!("by {marker} for {}", event_called(table, copy.user))
+}
+
 /// What an unfolded condition is called: its condition, and for a copy its marker and its user.
-pub fn condition_called(library: &mut Driver, table: &Source, number: u16) -> Answer<String> {
+fn condition_called(library: &mut Driver, table: &Source, number: u16) -> Answer<String> {
     let origin = library.condition_origin(&table.bytes, number)?;
     let name = table.table.condition_name(origin.condition);
     Ok(match origin.copy {
         None => name,
-        Some(copy) => {
-            let marker = marker_called(table, copy.marker);
-            let user = event_called(table, copy.user);
-            format!("{name} by {marker} for {user}")
-        }
+        Some(copy) => format!("{name} {}", copy_called(table, copy)),
     })
 }
 

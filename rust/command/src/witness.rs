@@ -7,56 +7,38 @@ use wire::{Answer, Driver, Failure, Refusal};
 
 use crate::source::{self, Source, MOST_STEPS};
 use crate::stop::{Stop, Stopped, Told};
-use crate::telling::{counted, held, meaning_with};
+use crate::telling::{counted, held, meaning_with, stopped_by};
 use crate::tools;
 use crate::trace::{self, Trace};
-use crate::unfold::{condition_called, lists, unfolded_called};
+use crate::unfold::{copy_called, unfolded_called};
 
-/// The unfolded condition that stops a step of a trace, by the number of its refusal.
-fn stopped_by(
-    library: &mut Driver,
-    table: &Source,
-    steps: &[u16],
-    number: u64,
-) -> Answer<Option<String>> {
-    let Some((event, before)) = steps.split_last() else {
-        return Ok(None);
-    };
-    let conditions = library.unfolded_counts(&table.bytes)?.conditions;
-    let mut marking = vec![0; conditions as usize];
-    library.unfolded_replay(&table.bytes, before, &mut marking)?;
-    let [pre, post] = lists(library, table, *event)?;
-    let holds = |b: &u16| marking.get(usize::from(*b)) == Some(&1);
-    let (stopping, why) = match number {
-        11 => (pre.iter().find(|b| !holds(b)), "has no token"),
-        _ => (
-            post.iter().find(|b| holds(b) && !pre.contains(b)),
-            "has a token already",
+/// An unfolded condition with its place in the exported net, and the condition that it is or is a copy of.
+fn unfolded_told(library: &mut Driver, table: &Source, number: u16) -> Answer<String> {
+    let told = format!("unfolded condition {number} (place p{number})");
+    let origin = library.condition_origin(&table.bytes, number)?;
+    let condition = table.condition_told(origin.condition);
+    Ok(match origin.copy {
+        None => format!("{told}, which is {condition},"),
+        Some(copy) => format!(
+            "{told}, a copy of {condition} {},",
+            copy_called(table, copy)
         ),
-    };
-    let Some(condition) = stopping else {
-        return Ok(None);
-    };
-    let called = condition_called(library, table, *condition)?;
-    Ok(Some(format!("place p{condition}, {called}, {why}")))
+    })
 }
 
-/// What is known of the step at which a trace is refused.
-fn more(
-    library: &mut Driver,
-    table: &Source,
-    steps: &[u16],
-    number: u64,
-) -> Answer<Option<String>> {
-    let events = library.unfolded_counts(&table.bytes)?.events;
-    match number {
-        10 if events == 0 => Ok(Some("the unfolding has none".to_string())),
-        10 => Ok(Some(format!(
-            "the unfolding has events 0 to {}",
-            events - 1
-        ))),
-        _ => stopped_by(library, table, steps, number),
+/// What the refusal of a step means: by which unfolded condition it was stopped, or which unfolded events there are.
+fn step_meaning(library: &mut Driver, table: &Source, refusal: Refusal) -> Answer<String> {
+    let Refusal { number, by, .. } = refusal;
+    if let Some(condition) = by {
+        let condition = unfolded_told(library, table, condition as u16)?;
+        return Ok(stopped_by(number, &condition));
     }
+    let events = library.unfolded_counts(&table.bytes)?.events;
+    let known = match events {
+        0 => "the unfolding has none".to_string(),
+        _ => format!("the unfolding has events 0 to {}", events - 1),
+    };
+    Ok(meaning_with(number, Some(&known)))
 }
 
 /// What a step of a trace is, and where it stands.
@@ -83,11 +65,9 @@ fn told(library: &mut Driver, table: &Source, trace: &Trace, refusal: Refusal) -
             let what = format!("a run has at most {MOST_STEPS} steps");
             (what, format!("{}, {steps}", trace.called))
         }
-        number @ 10..=12 => {
-            let steps = trace.steps.get(..=step).unwrap_or_default();
-            let more = more(library, table, steps, number)?;
-            let place = step_told(library, table, trace, step)?;
-            (meaning_with(number, more.as_deref()), place)
+        10..=12 => {
+            let what = step_meaning(library, table, refusal)?;
+            (what, step_told(library, table, trace, step)?)
         }
         _ => return Ok(table.told(refusal)),
     };

@@ -237,10 +237,10 @@ fn the_changeover_is_listed() {
 fn refused_runs_are_told() {
     let examples = Path::new(TOP).join("examples");
     let (out, err) = refused(&examples, &["list", "changeover.txt", "hasty"]);
-    assert_eq!(out, "refused 11 at 11\n");
+    assert_eq!(out, "refused 11 at 11 by 13\n");
     assert_eq!(
         err,
-        "  what: a precondition of the event does not hold: condition 13 `reference-locked` does not hold\n  \
+        "  what: condition 13 `reference-locked` does not hold, and the event needs it\n  \
          where: step 11 of run `hasty`, counted from 0: event 10 `connect-b`, line 53, column 16 of changeover.txt\n"
     );
     let (out, err) = refused(&examples, &["list", "changeover.txt", "careful"]);
@@ -305,7 +305,10 @@ fn every_example_is_judged() {
     assert!(judged("limits.txt").contains(" and 65535 events\n"));
     assert!(judged("limits-over.txt").contains("does not unfold: refused 14 at 0\n"));
     assert!(judged("changeover.txt").contains("unfolds to 27 conditions and 1037 events\n"));
-    assert!(judged("changeover.txt").contains(": condition 13 `reference-locked` does not hold\n"));
+    assert!(judged("changeover.txt").contains(
+        "run `hasty`: refused 11 at 11 by 13\n  \
+         what: condition 13 `reference-locked` does not hold, and the event needs it\n"
+    ));
     assert!(judged("unused.txt").contains(
         "run `once`: 1 step, ends in {0}, does not lift, as the table does not unfold\n"
     ));
@@ -426,24 +429,69 @@ fn files_of_records_are_told_by_their_bytes() {
     }
 }
 
-#[test]
-fn contact_is_told_by_its_condition() {
+/// What `list` answers and says of the first run of a text, and what `judge` answers of it.
+fn told_of_run(text: &str) -> (String, String, String) {
     let folder = Folder::new().unwrap();
-    let text = b"conditions: a, b, c [p]\nx: {a} -> {c, b}\nstart: {a, b, c}\nrun r: x\n";
-    folder.write("t.txt", text).unwrap();
+    folder.write("t.txt", text.as_bytes()).unwrap();
     let (out, err) = refused(folder.path(), &["list", "t.txt"]);
-    assert_eq!(out, "refused 12 at 0\n");
-    assert!(
-        err.contains("preconditions: condition 1 `b` holds already\n"),
-        "{err}"
-    );
     let judged = ran_in(folder.path(), &["judge", "t.txt"]);
-    assert!(
-        judged
-            .out
-            .contains("preconditions: condition 1 `b` holds already\n"),
-        "{}",
-        judged.out
+    assert_eq!((judged.status, judged.err.as_str()), (0, ""));
+    (out, err, judged.out)
+}
+
+#[test]
+fn a_stopped_step_is_told_by_its_condition() {
+    for (table, line, what) in [
+        (
+            "conditions: a, b, c [p]\nx: {a} -> {c, b}\nstart: {a, b, c}\nrun r: x\n",
+            "refused 12 at 0 by 1\n",
+            "  what: condition 1 `b` still holds, and the event would set it again: contact\n",
+        ),
+        (
+            "conditions: a, b, key-loaded [p]\nx: {a} -> {a}\ny: {a, b, key-loaded} -> {}\n\
+             start: {a, b}\nrun r: x, x, y\n",
+            "refused 11 at 2 by 2\n",
+            "  what: condition 2 `key-loaded` does not hold, and the event needs it\n",
+        ),
+        (
+            "conditions: 0..3\n0: {0} -> {1}\n1: {1, 2, 3} -> {}\nstart: {0}\nrun r: 0, 1\n",
+            "refused 11 at 1 by 2\n",
+            "  what: condition 2 does not hold, and the event needs it\n",
+        ),
+        (
+            "conditions: 0..3\n0: {3} -> {0, 1, 2, 3}\nstart: {2, 1, 3}\nrun r: 0\n",
+            "refused 12 at 0 by 1\n",
+            "  what: condition 1 still holds, and the event would set it again: contact\n",
+        ),
+        (
+            "conditions: idle, on\nx: {idle} -> {on}\nstart: {}\nrun r: x\n",
+            "refused 11 at 0 by 0\n",
+            "  what: condition 0 `idle` does not hold, and the event needs it\n",
+        ),
+    ] {
+        let (out, err, judged) = told_of_run(table);
+        assert_eq!(out, line);
+        assert!(
+            err.starts_with(&format!("{what}  where: step ")) && err.lines().count() == 2,
+            "{err}"
+        );
+        let both = format!("run `r`: {line}{what}  where: step ");
+        assert!(judged.contains(&both), "{judged}");
+    }
+}
+
+#[test]
+fn a_stopped_step_of_records_is_told_by_its_condition() {
+    let folder = files_of_many_kinds();
+    folder
+        .write("early.bin", &[4, 0, 4, 0, 0, 0, 2, 0])
+        .unwrap();
+    let (out, err) = refused(folder.path(), &["list", "net.bin", "early.bin"]);
+    assert_eq!(out, "refused 11 at 1 by 3\n");
+    assert_eq!(
+        err,
+        "  what: condition 3 does not hold, and the event needs it\n  \
+         where: step 1 of early.bin, counted from 0: event 2\n"
     );
 }
 

@@ -140,7 +140,10 @@ fn the_longest_runs() {
     assert_eq!(run(&turns).len(), MOST_RUN_BYTES);
     assert_eq!(compared_bytes(&swing, &run(&turns)).lines().count(), 4098);
     let late = [&turns[..4095], &[0]].concat();
-    assert_eq!(compared_bytes(&swing, &run(&late)), "refused 11 at 4095\n");
+    assert_eq!(
+        compared_bytes(&swing, &run(&late)),
+        "refused 11 at 4095 by 0\n"
+    );
 }
 
 #[test]
@@ -150,7 +153,10 @@ fn the_largest_files() {
     let largest = table(256, &[], &events, &all[..128]);
     assert_eq!(largest.len(), MOST_NET_BYTES);
     assert!(compared_bytes(&largest, &run(&[])).starts_with("start 0,1,2,"));
-    assert_eq!(compared_bytes(&largest, &run(&[0])), "refused 11 at 0\n");
+    assert_eq!(
+        compared_bytes(&largest, &run(&[0])),
+        "refused 11 at 0 by 128\n"
+    );
     let larger = table(256, &[], &events, &all[..129]);
     assert_eq!(compared_bytes(&larger, &run(&[])), "refused 19 at 0\n");
     let one_more = [&largest[..], &[0]].concat();
@@ -179,7 +185,7 @@ fn run_files_of_every_kind() {
         ([run(&[0]), run(&[1])].concat(), "refused 9 at 6\n"),
         (run(&[0, 3]), "refused 10 at 1\n"),
         (run(&[0, 65_535]), "refused 10 at 1\n"),
-        (run(&[1]), "refused 11 at 0\n"),
+        (run(&[1]), "refused 11 at 0 by 1\n"),
     ] {
         assert_eq!(compared_bytes(&net, &bytes), expected);
     }
@@ -220,7 +226,10 @@ fn refusals_of_tables_come_first() {
         "refused 10 at 2\n"
     );
     let contact = table(2, &[], &[event(&[0], &[1])], &[0, 1]);
-    assert_eq!(compared_bytes(&contact, &run(&[0])), "refused 12 at 0\n");
+    assert_eq!(
+        compared_bytes(&contact, &run(&[0])),
+        "refused 12 at 0 by 1\n"
+    );
 }
 
 #[test]
@@ -233,6 +242,40 @@ fn the_largest_unfoldings() {
     let steps: Vec<u16> = (0..255).collect();
     let written = compared_bytes(&table_bytes(&net), &run(&steps));
     assert_eq!(written.lines().count(), 257);
+}
+
+#[test]
+fn stopped_steps_and_their_conditions() {
+    let all: Vec<u16> = (0..256).collect();
+    let last = table(256, &[0], &[event(&all, &[])], &all[..255]);
+    assert_eq!(
+        compared_bytes(&last, &run(&[0])),
+        "refused 11 at 0 by 255\n"
+    );
+    let full = table(256, &[0], &[event(&[], &all)], &[0, 255]);
+    assert_eq!(
+        compared_bytes(&full, &run(&[0])),
+        "refused 12 at 0 by 255\n"
+    );
+    let none = table(256, &[0, 255], &[event(&all, &all)], &[]);
+    assert_eq!(compared_bytes(&none, &run(&[0])), "refused 11 at 0 by 0\n");
+    let ring = [
+        event(&[9], &[10]),
+        event(&[10], &[9]),
+        event(&[], &[9, 99, 100]),
+    ];
+    let ring = table(101, &[], &ring, &[9, 99]);
+    let steps = [&[0, 1].repeat(500)[..], &[0, 2]].concat();
+    assert_eq!(
+        compared_bytes(&ring, &run(&steps)),
+        "refused 12 at 1001 by 99\n"
+    );
+    let steps = [0, 1].repeat(500);
+    let steps = [&steps[..], &[1]].concat();
+    assert_eq!(
+        compared_bytes(&ring, &run(&steps)),
+        "refused 11 at 1000 by 10\n"
+    );
 }
 
 /// A run of a net as the generator walks it, its record whole or damaged now and then.

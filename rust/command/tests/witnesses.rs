@@ -100,15 +100,15 @@ fn refused_traces_are_told_by_their_step() {
     for (trace, line, said) in [
         (
             "t9 t9",
-            "refused 12 at 1\n",
-            "  what: contact: an ordinary postcondition of the event holds already and is not among its preconditions: \
-             place p26, signed-in by sign-in for connect-b, has a token already\n  \
+            "refused 12 at 1 by 26\n",
+            "  what: unfolded condition 26 (place p26), a copy of condition 16 `signed-in` by sign-in for connect-b, still holds, \
+             and the event would set it again: contact\n  \
              where: step 1 of the standard input, counted from 0: t9, sign-in, at line 1, column 4\n",
         ),
         (
             "t9\n t1035\n t1035",
-            "refused 11 at 2\n",
-            "  what: a precondition of the event does not hold: place p0, a-feeds, has no token\n  \
+            "refused 11 at 2 by 0\n",
+            "  what: unfolded condition 0 (place p0), which is condition 0 `a-feeds`, does not hold, and the event needs it\n  \
              where: step 2 of the standard input, counted from 0: t1035, release-a, at line 3, column 2\n",
         ),
         (
@@ -123,14 +123,45 @@ fn refused_traces_are_told_by_their_step() {
     }
     let picks = "t1033, connect-b (time-set by set-time, key-loaded by load-key, ";
     let (out, err, _) = witness(mended, "9 8 0 1 2 3 1034 4 5 6 7 1033");
-    assert_eq!(out, "refused 11 at 11\n");
+    assert_eq!(out, "refused 11 at 11 by 6\n");
     assert!(
-        err.contains("place p6, combiner-free, has no token\n") && err.contains(picks),
+        err.contains("(place p6), which is condition 6 `combiner-free`, does not hold, and")
+            && err.contains(picks),
         "{err}"
     );
     let (out, err, _) = witness(mended, "t9\nt8 t10");
-    assert_eq!(out, "refused 11 at 2\n");
-    assert!(err.contains("place p4, b-warm, has no token\n"), "{err}");
+    assert_eq!(out, "refused 11 at 2 by 4\n");
+    let said = "(place p4), which is condition 4 `b-warm`, does not hold, and";
+    assert!(err.contains(said), "{err}");
+}
+
+#[test]
+fn a_step_of_a_trace_is_told_by_the_copy_that_stopped_it() {
+    for (table, trace, line, what) in [
+        (
+            "net-a.txt",
+            "t0 t1",
+            "refused 11 at 1 by 2\n",
+            "unfolded condition 2 (place p2), a copy of condition 2 by start for event 1, does not hold, and the event needs it",
+        ),
+        (
+            "net-b.txt",
+            "t0 t0",
+            "refused 12 at 1 by 2\n",
+            "unfolded condition 2 (place p2), a copy of condition 1 by event 0 for event 1, still holds, \
+             and the event would set it again: contact",
+        ),
+        (
+            "net-a.txt",
+            "t0 t2 t2",
+            "refused 11 at 2 by 1\n",
+            "unfolded condition 1 (place p1), which is condition 1, does not hold, and the event needs it",
+        ),
+    ] {
+        let (out, err, status) = witness(&format!("examples/{table}"), trace);
+        assert_eq!((out.as_str(), status), (line, 1));
+        assert!(err.starts_with(&format!("  what: {what}\n  where: step ")), "{err}");
+    }
 }
 
 #[test]
