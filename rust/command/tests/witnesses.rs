@@ -79,8 +79,11 @@ fn the_page_shows_what_the_witness_is_read_back_as() {
         blocks[1]
     );
     let small = run_of("examples/net-a.txt", "t0 t2 t3 t2");
-    let indented: String = small.lines().map(|line| format!("    {line}\n")).collect();
-    assert!(page.contains(&indented), "{indented}");
+    let (out, err, _) = witness("examples/net-b.txt", "t0 t0");
+    for shown in [small, out + &err] {
+        let indented: String = shown.lines().map(|line| format!("    {line}\n")).collect();
+        assert!(page.contains(&indented), "{indented}");
+    }
 }
 
 #[test]

@@ -1,4 +1,4 @@
-//! The condition that stopped a step, looked for condition after condition, and that nothing else is answered by it (02, No. 2).
+//! The condition that stopped a step, looked for condition after condition; all else is answered as before it was told (02, No. 2).
 
 use second::calls;
 use second::game::{fire, Game, Stop};
