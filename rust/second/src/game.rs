@@ -38,16 +38,15 @@ pub struct Stop {
 impl Stop {
     /// The refusal of a firing: the condition is its place too, and 10 has place 0.
     pub fn of_firing(self) -> Refusal {
-        self.at_step(self.by.map_or(0, usize::from))
+        let Stop { number, by } = self;
+        let place = by.map_or(0, usize::from);
+        Refusal { number, place, by }
     }
 
     /// The refusal of a run: its place is the step, and the condition stands beside it.
-    pub fn at_step(self, step: usize) -> Refusal {
-        Refusal {
-            number: self.number,
-            place: step,
-            by: self.by,
-        }
+    pub fn at_step(self, place: usize) -> Refusal {
+        let Stop { number, by } = self;
+        Refusal { number, place, by }
     }
 }
 

@@ -46,8 +46,10 @@ fn lines(net_file: &[u8], run_file: &[u8]) -> Answer<Vec<String>> {
 /// The line of a refusal: its number and place, and for 11 and 12 the condition.
 fn refusal_line(refusal: Refusal) -> String {
     let Refusal { number, place, by } = refusal;
-    let line = format!("refused {number} at {place}");
-    by.map_or(line.clone(), |condition| format!("{line} by {condition}"))
+    match by {
+        None => format!("refused {number} at {place}"),
+        Some(condition) => format!("refused {number} at {place} by {condition}"),
+    }
 }
 
 /// The text of the listing for the bytes of the two files; every line ends in a newline.

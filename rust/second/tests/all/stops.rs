@@ -1,7 +1,7 @@
 //! The condition that stopped a step, looked for condition after condition; all else is answered as before it was told (02, No. 2).
 
 use second::calls;
-use second::game::{fire, Game, Stop};
+use second::game::{fire, play, Game, Stop};
 use second::generator::{small_unfolding, walk, Random, Walk};
 use second::refusal::Refusal;
 use second::table::{table_bytes, Event, Net};
@@ -80,7 +80,7 @@ fn refused_before<G: Game>(game: &G, run: &[u16]) -> Option<(u8, usize)> {
 
 /// The condition that stops a run by the rule, in the marking before the step.
 fn run_by_the_rule<G: Game>(game: &G, run: &[u16], step: usize) -> Option<u16> {
-    let before = second::game::play(game, game.start(), &run[..step]).unwrap();
+    let before = play(game, game.start(), &run[..step]).unwrap();
     by_the_rule(game, &before, run[step]).and_then(|(_, by)| by)
 }
 
@@ -108,8 +108,8 @@ impl Seen {
     }
 }
 
-/// A marking of so many conditions, each as likely to hold as not.
-fn half_held(random: &mut Random, conditions: usize) -> Vec<bool> {
+/// A marking of so many conditions, of which about two in three hold.
+fn mostly_held(random: &mut Random, conditions: usize) -> Vec<bool> {
     (0..conditions).map(|_| random.percent(65)).collect()
 }
 
@@ -146,7 +146,7 @@ fn a_firing_is_stopped_by_the_lowest_condition_at_fault() {
     for _ in 0..CASES {
         let (net, unfolding) = small_unfolding(&mut random);
         let table = table_bytes(&net);
-        let marking = half_held(&mut random, net.persistent.len());
+        let marking = mostly_held(&mut random, net.persistent.len());
         let number = random.below(net.events.len() + 1) as u16;
         let mut lent_marking = lent(marking.len(), &held(&marking));
         let answer = calls::has_concession(&table, &lent_marking, number).err();
@@ -156,7 +156,7 @@ fn a_firing_is_stopped_by_the_lowest_condition_at_fault() {
         if let Some(Refusal { number, by, .. }) = answer {
             table_seen.count((number, by), |b| net.persistent[usize::from(b)]);
         }
-        let marking = half_held(&mut random, unfolding.conditions.len());
+        let marking = mostly_held(&mut random, unfolding.conditions.len());
         let number = random.below(unfolding.events.len() + 1) as u16;
         let mut lent_marking = lent(marking.len(), &held(&marking));
         let answer = calls::fire_unfolded(&table, &mut lent_marking, number).err();
