@@ -139,8 +139,8 @@ fn is_kind(stop: Stop, kind: (u8, bool), lasting: impl Fn(u16) -> bool) -> bool 
     stop.number == kind.0 && stop.by.is_some_and(|b| lasting(b) == kind.1)
 }
 
-/// Adds a step that is stopped in a wanted way to a run that plays, if one of its own steps or of some other events is; now and then a step
-/// follows it that is not looked at.
+/// Adds a step that is stopped in a wanted way to a run that plays, if one of its own steps or of some other events is; now and then
+/// a step follows it that is not looked at.
 fn add_stopped<G: Game>(
     random: &mut Random,
     game: &G,

@@ -181,7 +181,8 @@ fn run_with_any_end<G: Game>(random: &mut Random, game: &G, events: usize) -> Ve
     run
 }
 
-/// A run's refusal by a step is the rule's, with the step as place, and was there before but for the condition; true where there is one.
+/// A run's refusal by a step is the rule's, with the step as place, and was there before but for the condition; tells whether there is
+/// one.
 fn run_agrees<G: Game>(game: &G, run: &[u16], answer: Option<Refusal>) -> bool {
     let expected = refused_before(game, run).map(|(number, step)| Refusal {
         number,
