@@ -14,7 +14,7 @@ use Rattle.model.specs.Runs.{runs, end, opening, replay}
 use Rattle.model.specs.Unfolding.{basic}
 use Rattle.model.specs.Lent.{bytes}
 use Rattle.model.specs.Exchange.{exchanged}
-use Rattle.model.specs.Across.{Answer, run, refusal, stopped, other, unless, stuck, mostSteps, tooLong, unfoldingRefused, lifting, lift, readBack, projecting, project, exchanging, exchange}
+use Rattle.model.specs.Across.{Answer, run, refusal, ofTable, stopped, other, unless, stuck, mostSteps, tooLong, unfoldingRefused, lifting, lift, readBack, projecting, project, exchanging, exchange}
 use Rattle.model.specs.Demands.{Correspond, Projects}
 use Rattle.model.proofs.Answers.{unless-run, not-stuck, stuck-none, exchanging-run, short-length, length-short}
 use Rattle.model.proofs.Exchange.{exchanged-twice, length-exchanged}
@@ -76,7 +76,7 @@ module _ (s : List ℕ) (n : ℕ) (j : judgeOf s ≡ Fine n) where
   replay-given : (r : List ℕ) (room : ℕ) → length r ≤ mostSteps → T (runs (netOf s) (begin (netOf s)) r) → netOf s .conditions ≤ room → replayOf s r room ≡ Fine (netOf s .conditions)
   unfolding replayOf playedOf opening
   replay-given r room short t h =
-      rw (j, length-short r short, stuck-none (netOf s) 0 (opening (netOf s)) r t) (fitting-room (netOf s .conditions) room h)
+      rw (j, length-short r short, stuck-none ofTable (netOf s) 0 (opening (netOf s)) r t) (fitting-room (netOf s .conditions) room h)
 
 -- what is read back has as many steps
 project-length : (n : Net) (w r : List ℕ) → Projects n w r → length r ≡ length w
@@ -163,9 +163,9 @@ fitted-fifteen (run w) room i e = absurd (go (leb (length w) room) e)
     go : (b : Bool) → need b 16 (length w) (Fine (length w)) ≡ refusedAt 15 i → ⊥
     go true e = never-both e
     go false e = let z : _≡_ {A = ℕ} 16 15 = ap refused.numberOf e in omega arith
-fitted-fifteen (refusal (stopped unknown k)) room i e = absurd (let z : _≡_ {A = ℕ} 10 15 = ap refused.numberOf e in omega arith)
-fitted-fifteen (refusal (stopped (lacks b) k)) room i e = absurd (let z : _≡_ {A = ℕ} 11 15 = ap refused.numberOf e in omega arith)
-fitted-fifteen (refusal (stopped (meets b) k)) room i e = absurd (let z : _≡_ {A = ℕ} 12 15 = ap refused.numberOf e in omega arith)
+fitted-fifteen (refusal (stopped w unknown k)) room i e = absurd (let z : _≡_ {A = ℕ} 10 15 = ap refused.numberOf e in omega arith)
+fitted-fifteen (refusal (stopped w (lacks b) k)) room i e = absurd (let z : _≡_ {A = ℕ} 11 15 = ap refused.numberOf e in omega arith)
+fitted-fifteen (refusal (stopped w (meets b) k)) room i e = absurd (let z : _≡_ {A = ℕ} 12 15 = ap refused.numberOf e in omega arith)
 fitted-fifteen (refusal (other x k)) room i e =
     let z : x ≡ 15 = ap refused.numberOf e in
     let y : k ≡ i = ap refused.placeOf e in
@@ -176,8 +176,8 @@ accepted : (n : Net) (r : List ℕ) (room c : ℕ) → playedOf n (opening n) r 
 unfolding playedOf opening
 accepted n r room c e =
     let x = link-fine (tooLong r) _ c e in
-    let y = link-fine (stuck (replay n 0 (opening n) r)) _ c (x .1) in
-    (x .0, not-stuck n 0 (opening n) r (y .0))
+    let y = link-fine (stuck ofTable (replay n 0 (opening n) r)) _ c (x .1) in
+    (x .0, not-stuck ofTable n 0 (opening n) r (y .0))
 
 -- A run that replay accepts is turned away with 15 exactly where an event with a persistent postcondition comes again.
 pub turned-away : (s r end : List ℕ) (c : ℕ) → replayOf s r (length end) ≡ Fine c → unfoldingRefused (netOf s) ≡ none → (room : ℕ) → TurnedAway s r room

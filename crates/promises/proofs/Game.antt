@@ -9,7 +9,7 @@ use lib.ListN.{length, drop-of-length-le}
 use Rattle.model.specs.Net.{Marking, begin, fire, Stop, stopping}
 use Rattle.model.specs.Runs.{end, opening, replay}
 use Rattle.model.specs.Exchange.{exchanged}
-use Rattle.model.specs.Across.{Answer, run, refusal, stuck, tooLong, exchanging, exchange}
+use Rattle.model.specs.Across.{Answer, run, refusal, ofTable, stuck, tooLong, exchanging, exchange}
 use Rattle.model.proofs.Replay.{replay-runs, replay-go}
 use Rattle.model.proofs.Answers.{unless-run, exchanging-run, length-short}
 use Rattle.model.proofs.Exchange.{exchanged-short}
@@ -25,7 +25,7 @@ use Rattle.table.specs.Decoded.{netOf}
 use Rattle.table.specs.Links.{refusedOr}
 use Rattle.table.proofs.Decoded.{conditions-are-all}
 use Rattle.model.specs.Lent.{bytes, marking}
-use Rattle.game.specs.Calls.{onMarking, leaves, stoppedAt, firingOf, fireOf, firedOf}
+use Rattle.game.specs.Calls.{onMarking, leaves, firingStopped, firingOf, fireOf, firedOf}
 use Rattle.played.specs.Begun.{begunAt}
 use Rattle.replay.specs.Calls.{playedOf, replayOf, endOf, replayFromOf, endFromOf}
 use Rattle.exchange.specs.Calls.{swapping, exchangeOf, exchangedOf}
@@ -73,8 +73,8 @@ exchange-replayed s r k c h out =
     let d = exchange-exchanged (netOf s) r k w a .1 in
     let short = unless-run (tooLong r) (exchanging (netOf s) r k) w a .0 in
     let plays = exchanging-run (netOf s) r k w (unless-run (tooLong r) (exchanging (netOf s) r k) w a .1) .0 in
-    let old : stuck (replay (netOf s) 0 (opening (netOf s)) r) ≡ none = ap stuck (replay-runs (netOf s) 0 (opening (netOf s)) r plays) in
-    let new : stuck (replay (netOf s) 0 (opening (netOf s)) (exchanged k r)) ≡ none = ap stuck (replay-runs (netOf s) 0 (opening (netOf s)) (exchanged k r) (d .run)) in
+    let old : stuck ofTable (replay (netOf s) 0 (opening (netOf s)) r) ≡ none = ap (stuck ofTable) ofTable (replay-runs (netOf s) 0 (opening (netOf s)) r plays) in
+    let new : stuck ofTable (replay (netOf s) 0 (opening (netOf s)) (exchanged k r)) ≡ none = ap (stuck ofTable) ofTable (replay-runs (netOf s) 0 (opening (netOf s)) (exchanged k r) (d .run)) in
     let left : leaves (exchangeOf s r k) (exchanged k r) r ≡ exchanged k r = rw h in
     let same : replayOf s (exchanged k r) (length out) ≡ replayOf s r (length out) = simp (exchanged-short k r short, short, old, new) in
     record {
@@ -90,7 +90,7 @@ exchange-replayed s r k c h out =
 
 -- ---- a firing as a replay
 
-stopped-fine : (o : Option Stop) (v c : ℕ) → refusedOr (stoppedAt 0 o) (Fine v) ≡ Fine c → (o ≡ none) × (v ≡ c)
+stopped-fine : (o : Option Stop) (v c : ℕ) → refusedOr (firingStopped ofTable o) (Fine v) ≡ Fine c → (o ≡ none) × (v ≡ c)
 stopped-fine none v c e = (refl, cc)
 stopped-fine (some x) v c e = never-both (sym e)
 
@@ -98,14 +98,14 @@ stopped-fine (some x) v c e = never-both (sym e)
 pub fire-replayed : (s m : List ℕ) (e c : ℕ) → fireOf s m e ≡ Fine c → OneStep s m e c
 unfolding firingOf firedOf replayFromOf endFromOf playedOf begunAt end replay
 fire-replayed s m e c h =
-    let k = on-fine s m (λ n. refusedOr (stoppedAt 0 (stopping (netOf s) (marking m) e)) (Fine (netOf s .conditions))) c h in
+    let k = on-fine s m (λ n. refusedOr (firingStopped ofTable (stopping (netOf s) (marking m) e)) (Fine (netOf s .conditions))) c h in
     let (o, v) = stopped-fine (stopping (netOf s) (marking m) e) (netOf s .conditions) c (k .goes) in
     let count : length m ≡ netOf s .conditions = k .long ∙ conditions-are-all s (k .events) (k .judged) in
     let short : tooLong (e ∷ []) ≡ none = length-short (e ∷ []) (omega arith) in
-    let free : stuck (replay (netOf s) 0 (begunAt (netOf s) (marking m)) (e ∷ [])) ≡ none
-    = ap stuck (replay-go (netOf s) 0 (begunAt (netOf s) (marking m)) e [] o) in
+    let free : stuck ofTable (replay (netOf s) 0 (begunAt (netOf s) (marking m)) (e ∷ [])) ≡ none
+    = ap (stuck ofTable) ofTable (replay-go (netOf s) 0 (begunAt (netOf s) (marking m)) e [] o) in
     let fits = fitting-room (netOf s .conditions) (length m) (omega arith) in
-    let played : playedOf (netOf s) (begunAt (netOf s) (marking m)) (e ∷ []) (length m) ≡ refusedOr (stoppedAt 0 (stopping (netOf s) (marking m) e)) (Fine (netOf s .conditions))
+    let played : playedOf (netOf s) (begunAt (netOf s) (marking m)) (e ∷ []) (length m) ≡ refusedOr (firingStopped ofTable (stopping (netOf s) (marking m) e)) (Fine (netOf s .conditions))
     = rw (short, free, o) fits in
     let all : List ℕ = bytes (netOf s .conditions) (fire (netOf s) (marking m) e) in
     let size = length-bytes (netOf s .conditions) (fire (netOf s) (marking m) e) in

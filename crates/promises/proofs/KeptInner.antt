@@ -13,12 +13,18 @@ use Rattle.model.specs.Runs.{replay, opening}
 use Rattle.model.specs.Unfolding.{basic}
 use Rattle.model.specs.Lent.{marking}
 use Rattle.model.specs.Across.{stuck, tooLong, unfoldingRefused}
+use Rattle.model.specs.Across as model
 use Rattle.table.specs.Decoded.{netOf}
 use Rattle.step.specs.declared.Cause.{Cause}
 use Rattle.step.specs.declared.Cause.the-variants.{Unknown, Lacks, Meets}
 use Rattle.step.specs.declared.Step.{Step}
 use Rattle.step.specs.declared.Step.the-variants.{Goes, Stops}
-use Rattle.step.specs.Steps.{recordNet, stepOf, stepped, answeredOf}
+use Rattle.step.specs.Steps.{recordNet, stepOf, stepped, causePlace, stoppedAt, answeredOf}
+use Rattle.unfolded_step.specs.declared.Cause as unfolded-cause
+use Rattle.unfolded_step.specs.declared.Cause.the-variants as unfolded-causes
+use Rattle.unfolded_step.specs.declared.Step as unfolded-step
+use Rattle.unfolded_step.specs.declared.Step.the-variants as unfolded-steps
+use Rattle.unfolded_step.specs.Steps as unfolded
 use Rattle.game.specs.Calls.{leaves, onMarking}
 use Rattle.played.specs.Begun.{begunAt}
 use Rattle.across.specs.Prepared.{preparedOf}
@@ -29,7 +35,10 @@ use Rattle.rules.proofs.conditions_record.Reads as conditions-record
 use Rattle.event_rules.proofs.event_record.Reads as event-record
 use Rattle.rules.proofs.marking_record.Reads as marking-record
 use Rattle.game.proofs.judge_lent.Reads as judge-lent
+use Rattle.step.proofs.stopped_at.Reads as stopped-at
 use Rattle.step.proofs.answered.Reads as answered
+use Rattle.unfolded_step.proofs.stopped_at.Reads as unfolded-stopped-at
+use Rattle.unfolded_step.proofs.answered.Reads as unfolded-answered
 use Rattle.step.proofs.step_at.Reads as step-at
 use Rattle.played.proofs.step_event.Reads as step-event
 use Rattle.played.proofs.play.Reads as play
@@ -55,14 +64,35 @@ pub judge-lent-refused : (κs : _) (a : _) (r : _) (x : _) → judge-lent.Learnt
 unfolding onMarking
 judge-lent-refused κs a r x h = rw h (judged-listed ofLent (now (a .0)) _ tt (λ n. lent-listed ofLent (netOf (now (a .0)) .conditions) (now (a .1 .0)) _ tt tt))
 
+cause-listed : (cause : Cause) (place : ℕ) → T (listed ofStep (stoppedAt cause place))
+cause-listed Unknown place = tt
+cause-listed (Lacks b) place = tt
+cause-listed (Meets b) place = tt
+
+pub stopped-at-refused : (κs : _) (a : _) (r : _) (x : _) → stopped-at.Learnt κs a r x → T (listed ofStep r)
+stopped-at-refused κs a r x h = rw h (cause-listed (a .0) (a .1 .0))
+
 pub answered-refused : (κs : _) (a : _) (r : _) (x : _) → answered.Learnt κs a r x → T (listed ofStep r)
-answered-refused κs a r x h = rw h (go (a .0) (a .1 .0) (a .1 .1 .0))
+answered-refused κs a r x h = rw h (go (a .0) (a .1 .0))
   where
-    go : (step : Step) (place value : ℕ) → T (listed ofStep (answeredOf step place value))
-    go Goes place value = tt
-    go (Stops Unknown) place value = tt
-    go (Stops (Lacks b)) place value = tt
-    go (Stops (Meets b)) place value = tt
+    go : (step : Step) (value : ℕ) → T (listed ofStep (answeredOf step value))
+    go Goes value = tt
+    go (Stops cause) value = cause-listed cause (causePlace cause)
+
+unfolded-cause-listed : (cause : unfolded-cause.Cause) (place : ℕ) → T (listed ofStep (unfolded.stoppedAt cause place))
+unfolded-cause-listed unfolded-causes.Unknown place = tt
+unfolded-cause-listed (unfolded-causes.Lacks b) place = tt
+unfolded-cause-listed (unfolded-causes.Meets b) place = tt
+
+pub unfolded-stopped-at-refused : (κs : _) (a : _) (r : _) (x : _) → unfolded-stopped-at.Learnt κs a r x → T (listed ofStep r)
+unfolded-stopped-at-refused κs a r x h = rw h (unfolded-cause-listed (a .0) (a .1 .0))
+
+pub unfolded-answered-refused : (κs : _) (a : _) (r : _) (x : _) → unfolded-answered.Learnt κs a r x → T (listed ofStep r)
+unfolded-answered-refused κs a r x h = rw h (go (a .0) (a .1 .0))
+  where
+    go : (step : unfolded-step.Step) (value : ℕ) → T (listed ofStep (unfolded.answeredOf step value))
+    go unfolded-steps.Goes value = tt
+    go (unfolded-steps.Stops cause) value = unfolded-cause-listed cause (unfolded.causePlace cause)
 
 -- a step that is stopped leaves what it was lent
 stepped-kept : (o : Option Stop) (r : Step) (c : Cause) (new old out : List ℕ) → r ≡ stepOf o → out ≡ stepped o new old → r ≡ Stops c → out ≡ old
@@ -79,7 +109,7 @@ pub play-refused : (κs : _) (a : _) (r : _) (x : _) → play.Learnt κs a r x �
 play-refused κs a r x h =
     let run = now (a .1 .1 .1 .0) in
     let played = replay (netOf (now (a .0))) 0 (begunAt (netOf (now (a .0))) (marking (now (a .1 .1 .1 .1 .0)))) run in
-    rw (h .told) (listed-or ofSteps (tooLong run) _ (long-listed ofSteps run tt) (listed-or ofSteps (stuck played) _ (stuck-listed ofSteps played tt tt tt) tt))
+    rw (h .told) (listed-or ofSteps (tooLong run) _ (long-listed ofSteps run tt) (listed-or ofSteps (stuck model.ofTable played) _ (stuck-listed ofSteps model.ofTable played tt tt tt) tt))
 
 pub write-end-refused : (κs : _) (a : _) (r : _) (x : _) → write-end.Learnt κs a r x → Refusing (16 ∷ []) r (now (a .1 .1 .0)) (now (x .1 .1 .0))
 write-end-refused κs a r x h =
@@ -100,4 +130,4 @@ pub replay-lifted-refused : (κs : _) (a : _) (r : _) (x : _) → replay-lifted.
 replay-lifted-refused κs a r x h =
     let unfolded = basic (netOf (now (a .0))) in
     let played = replay unfolded 0 (opening unfolded) (now (a .1 .1 .1 .1 .1 .0)) in
-    rw (h .told) (listed-or ofStep (stuck played) _ (stuck-listed ofStep played tt tt tt) tt)
+    rw (h .told) (listed-or ofStep (stuck model.ofUnfolding played) _ (stuck-listed ofStep model.ofUnfolding played tt tt tt) tt)

@@ -9,7 +9,7 @@ use lib.Dec.{T, eqb, eqb-refl}
 use lib.ListN.{length}
 use denote.Ref.{now}
 use Rattle.lists.specs.Lists.{mem}
-use Rattle.lists.proofs.Bools.{or-left, or-right}
+use Rattle.lists.proofs.Bools.{and-both, or-left, or-right}
 use Rattle.model.specs.Unfolding.{UnfoldedCondition, ordinary, copy, basic}
 use Rattle.model.specs.Across as model
 use Rattle.model.specs.Across.{unfoldingRefused}
@@ -46,7 +46,7 @@ use Rattle.outward.specs.declared.Answer.{Answer}
 use Rattle.outward.specs.Told.{answerOf, valueOr, given}
 use Rattle.outward.specs.Words.{colourFor, markersOf, markersInto, conditionFor}
 use Rattle.outward.specs.Origins.{originAnswer, conditionOr, copyOr, markerOr, userOr}
-use Rattle.promises.specs.Refused.{ofTable, ofList, ofTableStart, ofFiring, ofReplay, ofExchange, ofUnfolding, ofNumbering, ofListing, ofStart, ofUnfoldedFiring, ofLift, ofProject, ofReading, ofWriting, listed, Refusing, Telling}
+use Rattle.promises.specs.Refused.{ofTable, ofList, ofTableStart, ofFiring, ofReplay, ofExchange, ofUnfolding, ofNumbering, ofListing, ofStart, ofUnfoldedFiring, ofLift, ofProject, ofReading, ofWriting, named, listed, Refusing, Telling}
 use Rattle.promises.proofs.Refused.{listed-need, listed-then, listed-cond, listed-fitting, zero-listed, judge-listed, judged-listed, firing-listed, replay-listed, exchange-listed, preconditions-listed, postconditions-listed, start-listed, unfolding-of-listed, listing-listed, element-listed, unfolded-start-listed, unfolded-fire-listed, lift-listed, lift-end-listed, project-listed, unfolded-replay-listed, read-listed, write-listed}
 use Rattle.promises.proofs.Told.{event-answer}
 use Rattle.promises.proofs.Kept.{written-refused}
@@ -173,28 +173,33 @@ condition-for-listed s b copied m u =
 
 -- ---- what turns answers
 
--- an answer is refused with its own number
-own-listed : (l : List ℕ) (a : Judged) → T (listed (numberOf a ∷ l) a)
-own-listed l (Fine v) = tt
-own-listed l (Refused x) = or-left (eqb (x .number) (x .number)) (mem (x .number) l) (eqb-refl (x .number))
+-- an answer that names a condition as the calls do is refused with its own number
+own-refused : (l : List ℕ) (x : Refusal) → T (named x) → T (listed (x .number ∷ l) (Refused x))
+own-refused l x n =
+    and-both (mem (x .number) (x .number ∷ l)) (named x) (or-left (eqb (x .number) (x .number)) (mem (x .number) l) (eqb-refl (x .number))) n
 
-pub put-markers-refused : (κs : _) (a : _) (r : _) (x : _) → put-markers.Learnt κs a r x → Refusing (numberOf (a .0 .answer) ∷ 16 ∷ []) r (now (a .1 .0)) (now (x .1 .0))
+own-listed : (l : List ℕ) (a : Judged) → ((y : Refusal) → a ≡ Refused y → T (named y)) → T (listed (numberOf a ∷ l) a)
+own-listed l (Fine v) n = tt
+own-listed l (Refused x) n = own-refused l x (n x refl)
+
+pub put-markers-refused : (κs : _) (a : _) (r : _) (x : _) → put-markers.Learnt κs a r x → ((y : Refusal) → a .0 .answer ≡ Refused y → T (named y))
+    → Refusing (numberOf (a .0 .answer) ∷ 16 ∷ []) r (now (a .1 .0)) (now (x .1 .0))
 unfolding markersOf markersInto
-put-markers-refused κs a r x h =
+put-markers-refused κs a r x h n =
     written-refused (numberOf (a .0 .answer) ∷ 16 ∷ []) r (markersOf (a .0) (length (now (a .1 .0)))) _ (now (a .1 .0)) (now (x .1 .0)) (h .0)
-    (listed-then (numberOf (a .0 .answer) ∷ 16 ∷ []) (a .0 .answer) _ (own-listed (16 ∷ []) (a .0 .answer)) (λ v. listed-fitting (numberOf (a .0 .answer) ∷ 16 ∷ []) _ _ (or-right (eqb 16 (numberOf (a .0 .answer))) true tt)))
+    (listed-then (numberOf (a .0 .answer) ∷ 16 ∷ []) (a .0 .answer) _ (own-listed (16 ∷ []) (a .0 .answer) n) (λ v. listed-fitting (numberOf (a .0 .answer) ∷ 16 ∷ []) _ _ (or-right (eqb 16 (numberOf (a .0 .answer))) true tt)))
     (h .1)
 
 pub condition-number-refused : (κs : _) (a : _) (r : _) (x : _) → condition-number.Learnt κs a r x → T (listed ofNumbering r)
 condition-number-refused κs a r x h = rw h (condition-for-listed (now (a .0)) (a .1 .0 .0) (a .1 .1 .0) (a .1 .1 .1 .0) (a .1 .1 .1 .1 .0 .0))
 
-pub origin-answer-refused : (κs : _) (a : _) (r : _) (x : _) → origin-answer.Learnt κs a r x → T (listed (originNumber (a .0) ∷ []) r)
-origin-answer-refused κs a r x h = rw h (go (a .0))
+pub origin-answer-refused : (κs : _) (a : _) (r : _) (x : _) → origin-answer.Learnt κs a r x → ((y : Refusal) → a .0 ≡ show.Refused y → T (named y)) → T (listed (originNumber (a .0) ∷ []) r)
+origin-answer-refused κs a r x h n = rw h (go (a .0) n)
   where
-    go : (o : ConditionOrigin) → T (listed (originNumber o ∷ []) (originAnswer o))
-    go (show.Ordinary b) = tt
-    go (show.Copy b m u) = tt
-    go (show.Refused y) = own-listed [] (Refused y)
+    go : (o : ConditionOrigin) → ((y : Refusal) → o ≡ show.Refused y → T (named y)) → T (listed (originNumber o ∷ []) (originAnswer o))
+    go (show.Ordinary b) n = tt
+    go (show.Copy b m u) n = tt
+    go (show.Refused y) n = own-refused [] y (n y refl)
 
 -- ---- the exports
 

@@ -1,4 +1,6 @@
 pub mod Refused
+pub mod Before
+pub mod Stopped
 pub mod Game
 pub mod Across
 pub mod Told

@@ -10,8 +10,10 @@ use Rattle.refusal.specs.Answer.{written}
 use Rattle.runs.specs.Runs.{runOf}
 use Rattle.listing.specs.Calls.{textOf}
 use Rattle.refusal.proofs.refused.Reads as refused
+use Rattle.refusal.proofs.refused_by.Reads as refused-by
 use Rattle.refusal.proofs.number_of.Reads as number-of
 use Rattle.refusal.proofs.place_of.Reads as place-of
+use Rattle.refusal.proofs.by_of.Reads as by-of
 use Rattle.refusal.proofs.value_of.Reads as value-of
 use Rattle.table.proofs.judge.Reads as judge
 use Rattle.table.proofs.condition_count.Reads as condition-count
@@ -73,11 +75,17 @@ same-late r q new old after past e f g = (e, f ∙ ap (λ (z : Judged). written 
 pub refused-one : (κs : _) (a : _) (r q : _) (x y : _) → refused.Learnt κs a r x → refused.Learnt κs a q y → r ≡ q
 refused-one κs a r q x y h g = h ∙ sym g
 
+pub refused-by-one : (κs : _) (a : _) (r q : _) (x y : _) → refused-by.Learnt κs a r x → refused-by.Learnt κs a q y → r ≡ q
+refused-by-one κs a r q x y h g = h ∙ sym g
+
 pub number-of-one : (κs : _) (a : _) (r q : _) (x y : _) → number-of.Learnt κs a r x → number-of.Learnt κs a q y → r ≡ q
 number-of-one κs a r q x y h g = h ∙ sym g
 
 pub place-of-one : (κs : _) (a : _) (r q : _) (x y : _) → place-of.Learnt κs a r x → place-of.Learnt κs a q y → r ≡ q
 place-of-one κs a r q x y h g = h ∙ sym g
+
+pub by-of-one : (κs : _) (a : _) (r q : _) (x y : _) → by-of.Learnt κs a r x → by-of.Learnt κs a q y → r ≡ q
+by-of-one κs a r q x y h g = h ∙ sym g
 
 pub value-of-one : (κs : _) (a : _) (r q : _) (x y : _) → value-of.Learnt κs a r x → value-of.Learnt κs a q y → r ≡ q
 value-of-one κs a r q x y h g = h ∙ sym g

@@ -43,7 +43,10 @@ use Rattle.game.proofs.first_above.Reads as first-above
 use Rattle.step.proofs.set_all.Reads as set-all
 use Rattle.step.proofs.test_at.Reads as test-at
 use Rattle.step.proofs.step_at.Reads as step-at
+use Rattle.step.proofs.stopped_at.Reads as stopped-at
 use Rattle.step.proofs.answered.Reads as answered
+use Rattle.unfolded_step.proofs.stopped_at.Reads as unfolded-stopped-at
+use Rattle.unfolded_step.proofs.answered.Reads as unfolded-answered
 use Rattle.game.proofs.judge_lent.Reads as judge-lent
 use Rattle.played.proofs.start.Reads as played-start
 use Rattle.played.proofs.step_event.Reads as step-event
@@ -57,6 +60,7 @@ use Rattle.tally.proofs.nth.Reads as nth-of
 use Rattle.tally.proofs.place.Reads as place-among
 use Rattle.colours.proofs.is_persistent.Reads as is-persistent
 use Rattle.colours.proofs.colours.Reads as colours
+use Rattle.layout.proofs.width.Reads as width
 use Rattle.unfolding.proofs.marker_at.Reads as marker-at
 use Rattle.unfolding.proofs.marker_place.Reads as marker-place
 use Rattle.unfolding.proofs.owner.Reads as owner
@@ -182,8 +186,17 @@ test-at-one κs a r q x y h g = h ∙ sym g
 pub step-at-one : (κs : _) (a : _) (r q : _) (x y : _) → step-at.Learnt κs a r x → step-at.Learnt κs a q y → (r ≡ q) × (now (x .1 .1 .0) ≡ now (y .1 .1 .0))
 step-at-one κs a r q x y h g = (h .0 ∙ sym (g .0), h .1 ∙ sym (g .1))
 
+pub stopped-at-one : (κs : _) (a : _) (r q : _) (x y : _) → stopped-at.Learnt κs a r x → stopped-at.Learnt κs a q y → r ≡ q
+stopped-at-one κs a r q x y h g = h ∙ sym g
+
 pub answered-one : (κs : _) (a : _) (r q : _) (x y : _) → answered.Learnt κs a r x → answered.Learnt κs a q y → r ≡ q
 answered-one κs a r q x y h g = h ∙ sym g
+
+pub unfolded-stopped-at-one : (κs : _) (a : _) (r q : _) (x y : _) → unfolded-stopped-at.Learnt κs a r x → unfolded-stopped-at.Learnt κs a q y → r ≡ q
+unfolded-stopped-at-one κs a r q x y h g = h ∙ sym g
+
+pub unfolded-answered-one : (κs : _) (a : _) (r q : _) (x y : _) → unfolded-answered.Learnt κs a r x → unfolded-answered.Learnt κs a q y → r ≡ q
+unfolded-answered-one κs a r q x y h g = h ∙ sym g
 
 pub judge-lent-one : (κs : _) (a : _) (r q : _) (x y : _) → judge-lent.Learnt κs a r x → judge-lent.Learnt κs a q y → r ≡ q
 judge-lent-one κs a r q x y h g = h ∙ sym g
@@ -226,6 +239,9 @@ place-among-one κs a r q x y h g = h ∙ sym g
 
 pub is-persistent-one : (κs : _) (a : _) (r q : _) (x y : _) → is-persistent.Learnt κs a r x → is-persistent.Learnt κs a q y → r ≡ q
 is-persistent-one κs a r q x y h g = h ∙ sym g
+
+pub width-one : (κs : _) (a : _) (r q : _) (x y : _) → width.Learnt κs a r x → width.Learnt κs a q y → r ≡ q
+width-one κs a r q x y h g = h ∙ sym g
 
 pub colours-one : (κs : _) (a : _) (r q : _) (x y : _) → colours.Learnt κs a r x → colours.Learnt κs a q y → r ≡ q
 colours-one κs a r q x y h g = h ∙ sym g

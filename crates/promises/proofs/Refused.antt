@@ -1,20 +1,20 @@
 -- The numbers that the answers of the calls may be refused with, link by link of their chains.
 use mathlib.Core.Path.{_≡_}
-use mathlib.Core.Bool.{Bool, true, false, cond}
+use mathlib.Core.Bool.{Bool, true, false, _&&_, cond}
 use mathlib.Core.Option.{Option, none, some}
 use mathlib.Core.List.{List, _∷_}
 use Prim.Native.Nat.{ℕ, zero, suc, _+_, _*_, _/_, _%_}
 use lib.Dec.{T, leb, ltb, eqb}
 use lib.ListN.{length}
 use Rattle.lists.specs.Lists.{mem, all, fits}
-use Rattle.lists.proofs.Bools.{or-right}
+use Rattle.lists.proofs.Bools.{and-left, and-right, and-both, or-right}
 use Rattle.lists.proofs.Tests.{all-at, all-of}
-use Rattle.model.specs.Net.{Net, begin, Stop, unknown, lacks, meets, stopping}
+use Rattle.model.specs.Net.{Net, begin, Stop, unknown, lacks, meets, stopPlace, stopping}
 use Rattle.model.specs.Runs.{Played, ends, refused, replay, opening, State}
 use Rattle.model.specs.Unfolding.{basic}
 use Rattle.model.specs.Exchange.{apartStep}
 use Rattle.model.specs.Lent.{marking}
-use Rattle.model.specs.Across.{Answer, run, refusal, other, numberOf, unless, stuck, mostSteps, mostUnfolded, tooLong, within, lowestIdle, idleOrOver, unfoldingRefused, earliest, repeated, again, lifting, lift, projecting, project, noStep, notApart, exchanging, exchange}
+use Rattle.model.specs.Across.{Whose, stopped, Answer, run, refusal, other, numberOf, unless, stuck, mostSteps, mostUnfolded, tooLong, within, lowestIdle, idleOrOver, unfoldingRefused, earliest, repeated, again, lifting, lift, projecting, project, noStep, notApart, exchanging, exchange}
 use Rattle.model.specs.Across as model
 use Rattle.refusal.specs.declared.Judged.{Judged}
 use Rattle.refusal.specs.declared.Judged.the-variants.{Fine, Refused}
@@ -28,9 +28,9 @@ use Rattle.rules.specs.Rules.{conditionsOf, markingOf}
 use Rattle.event_rules.specs.EventRules.{listsOf, eventOf}
 use Rattle.table.specs.Walk.{kindIs, lastOf, eventsFrom, judgeOf, offsetOf}
 use Rattle.table.specs.Decoded.{netOf}
-use Rattle.table.specs.Links.{refusedOr}
+use Rattle.table.specs.Links.{refusing, refusedOr}
 use Rattle.game.specs.Lent.{lent, firstAbove}
-use Rattle.game.specs.Calls.{onMarking, stoppedAt, firingOf}
+use Rattle.game.specs.Calls.{onMarking, firingStopped, firingOf}
 use Rattle.replay.specs.Calls.{playedOf, replayOf, replayFromOf}
 use Rattle.played.specs.Begun.{begunAt}
 use Rattle.exchange.specs.Calls.{swapping, exchangeOf}
@@ -50,12 +50,12 @@ use Rattle.elements.specs.Calls.{elementOf}
 use Rattle.unfolded_lists.specs.Calls.{unfoldedListOf}
 use Rattle.starting.specs.Calls.{unfoldedStartOf}
 use Rattle.firing.specs.Calls.{unfoldedFireOf}
-use Rattle.promises.specs.Refused.{ofList, ofTableStart, ofFiles, ofPiece, ofListing, ofStart, ofUnfoldedFiring, ofTable, ofFiring, ofReplay, ofReplayFrom, ofExchange, ofUnfolding, ofLift, ofProject, ofReading, ofWriting, listed}
+use Rattle.promises.specs.Refused.{ofList, ofTableStart, ofFiles, ofPiece, ofListing, ofStart, ofUnfoldedFiring, ofTable, ofFiring, ofReplay, ofReplayFrom, ofExchange, ofUnfolding, ofLift, ofProject, ofReading, ofWriting, named, listed}
 
 -- ---- the links of a chain
 
 module _ (l : List ℕ) where
-  pub listed-need : (b : Bool) (number place : ℕ) (rest : Judged) → T (mem number l) → T (listed l rest) → T (listed l (need b number place rest))
+  pub listed-need : (b : Bool) (number place : ℕ) (rest : Judged) → T (listed l (refusedAt number place)) → T (listed l rest) → T (listed l (need b number place rest))
   unfolding need
   listed-need true number place rest h t = t
   listed-need false number place rest h t = h
@@ -68,18 +68,18 @@ module _ (l : List ℕ) where
   listed-cond true a z h t = h
   listed-cond false a z h t = t
 
-  listed-whole : (h : Header) (at : ℕ) (f : ℕ → ℕ → Judged) → T (mem 1 l) → ((kind len : ℕ) → T (listed l (f kind len))) → T (listed l (whenWhole h at f))
+  listed-whole : (h : Header) (at : ℕ) (f : ℕ → ℕ → Judged) → T (listed l (refusedAt 1 at)) → ((kind len : ℕ) → T (listed l (f kind len))) → T (listed l (whenWhole h at f))
   listed-whole Short at f h t = h
   listed-whole (Whole kind len) at f h t = t kind len
 
   pub listed-fitting : (needed room : ℕ) → T (mem 16 l) → T (listed l (fitting needed room))
   unfolding fitting
-  listed-fitting needed room h = listed-need (leb needed room) 16 needed (Fine needed) h tt
+  listed-fitting needed room h = listed-need (leb needed room) 16 needed (Fine needed) (and-both (mem 16 l) true h tt) tt
 
   -- a refusal of the model with one of the numbers
   abbrev pub listedIf : Option model.Refusal → Bool
   listedIf none = true
-  listedIf (some x) = mem (numberOf x) l
+  listedIf (some x) = listed l (refusing x)
 
   pub listed-or : (o : Option model.Refusal) (rest : Judged) → T (listedIf o) → T (listed l rest) → T (listed l (refusedOr o rest))
   listed-or none rest h t = t
@@ -88,12 +88,13 @@ module _ (l : List ℕ) where
 -- more numbers list no less
 pub listed-more : (k l : List ℕ) (a : Judged) → T (all (λ x. mem x l) k) → T (listed k a) → T (listed l a)
 listed-more k l (Fine v) h t = tt
-listed-more k l (Refused x) h t = all-at (λ y. mem y l) k h (x .number) t
+listed-more k l (Refused x) h t =
+    and-both (mem (x .number) l) (named x) (all-at (λ y. mem y l) k h (x .number) (and-left (mem (x .number) k) (named x) t)) (and-right (mem (x .number) k) (named x) t)
 
 -- the number of an answer that is no `Judged`: 0 where nothing is refused
 pub zero-listed : (l : List ℕ) (a : Judged) {number : ℕ} → number ≡ answer.numberOf a → T (listed l a) → T (mem number (0 ∷ l))
 zero-listed l (Fine k) e h = rw e tt
-zero-listed l (Refused x) e h = rw e (or-right (eqb (x .number) 0) (mem (x .number) l) h)
+zero-listed l (Refused x) e h = rw e (or-right (eqb (x .number) 0) (mem (x .number) l) (and-left (mem (x .number) l) (named x) h))
 
 -- ---- a table
 
@@ -154,19 +155,25 @@ judged-listed l s f h t = listed-then l (judgeOf s) f (listed-more ofTable l (ju
 pub lent-listed : (l : List ℕ) (c : ℕ) (m : List ℕ) (rest : Judged) → T (mem 18 l) → T (listed l rest) → T (listed l (lent c m rest))
 unfolding lent
 lent-listed l c m rest h t =
-    listed-need l (eqb (length m) c) 18 c _ h (listed-need l (leb (length m) (firstAbove m)) 18 (firstAbove m) rest h t)
+    let eighteen = and-both (mem 18 l) true h tt in
+    listed-need l (eqb (length m) c) 18 c _ eighteen (listed-need l (leb (length m) (firstAbove m)) 18 (firstAbove m) rest eighteen t)
 
 -- ---- steps, runs and the unfolding, as refusals of the model
 
-pub steps-listed : (l : List ℕ) (k : ℕ) (o : Option Stop) → T (mem 10 l) → T (mem 11 l) → T (mem 12 l) → T (listedIf l (stoppedAt k o))
-steps-listed l k none a b c = tt
-steps-listed l k (some unknown) a b c = a
-steps-listed l k (some (lacks x)) a b c = b
-steps-listed l k (some (meets x)) a b c = c
+pub stop-listed : (l : List ℕ) (w : Whose) (v : Stop) (k : ℕ) → T (mem 10 l) → T (mem 11 l) → T (mem 12 l) → T (listed l (refusing (stopped w v k)))
+stop-listed l w unknown k a b c = and-both (mem 10 l) true a tt
+stop-listed l model.ofTable (lacks x) k a b c = and-both (mem 11 l) true b tt
+stop-listed l model.ofUnfolding (lacks x) k a b c = and-both (mem 11 l) true b tt
+stop-listed l model.ofTable (meets x) k a b c = and-both (mem 12 l) true c tt
+stop-listed l model.ofUnfolding (meets x) k a b c = and-both (mem 12 l) true c tt
 
-pub stuck-listed : (l : List ℕ) (p : Played) → T (mem 10 l) → T (mem 11 l) → T (mem 12 l) → T (listedIf l (stuck p))
-stuck-listed l (ends s) a b c = tt
-stuck-listed l (refused v k) a b c = steps-listed l k (some v) a b c
+pub firing-stop-listed : (l : List ℕ) (w : Whose) (o : Option Stop) → T (mem 10 l) → T (mem 11 l) → T (mem 12 l) → T (listedIf l (firingStopped w o))
+firing-stop-listed l w none a b c = tt
+firing-stop-listed l w (some v) a b c = stop-listed l w v (stopPlace v) a b c
+
+pub stuck-listed : (l : List ℕ) (w : Whose) (p : Played) → T (mem 10 l) → T (mem 11 l) → T (mem 12 l) → T (listedIf l (stuck w p))
+stuck-listed l w (ends s) a b c = tt
+stuck-listed l w (refused v k) a b c = stop-listed l w v k a b c
 
 pub long-listed : (l r : List ℕ) → T (mem 3 l) → T (listedIf l (tooLong r))
 unfolding tooLong
@@ -174,16 +181,16 @@ long-listed l r h = go (leb (length r) mostSteps)
   where
     go : (b : Bool) → T (listedIf l (cond b none (some (other 3 0))))
     go true = tt
-    go false = h
+    go false = and-both (mem 3 l) true h tt
 
 pub unfolding-listed : (l : List ℕ) (n : Net) → T (mem 13 l) → T (mem 14 l) → T (listedIf l (unfoldingRefused n))
 unfolding unfoldingRefused
 unfolding-listed l n a z = go (lowestIdle n) (within n)
   where
     go : (o : Option ℕ) (b : Bool) → T (listedIf l (idleOrOver o b))
-    go (some e) b = a
+    go (some e) b = and-both (mem 13 l) true a tt
     go none true = tt
-    go none false = z
+    go none false = and-both (mem 14 l) true z tt
 
 -- ---- firing
 
@@ -192,8 +199,8 @@ unfolding firingOf onMarking
 firing-listed s m e value =
     judged-listed ofFiring s _ tt (λ n.
     lent-listed ofFiring (netOf s .conditions) m _ tt
-    (listed-or ofFiring (stoppedAt 0 (stopping (netOf s) (marking m) e)) (Fine value)
-    (steps-listed ofFiring 0 (stopping (netOf s) (marking m) e) tt tt tt) tt))
+    (listed-or ofFiring (firingStopped model.ofTable (stopping (netOf s) (marking m) e)) (Fine value)
+    (firing-stop-listed ofFiring model.ofTable (stopping (netOf s) (marking m) e) tt tt tt) tt))
 
 -- ---- replay
 
@@ -201,7 +208,7 @@ played-listed : (n : Net) (s : State) (r : List ℕ) (room : ℕ) → T (listed 
 unfolding playedOf
 played-listed n s r room =
     listed-or ofReplay (tooLong r) _ (long-listed ofReplay r tt)
-    (listed-or ofReplay (stuck (replay n 0 s r)) _ (stuck-listed ofReplay (replay n 0 s r) tt tt tt)
+    (listed-or ofReplay (stuck model.ofTable (replay n 0 s r)) _ (stuck-listed ofReplay model.ofTable (replay n 0 s r) tt tt tt)
     (listed-fitting ofReplay (n .conditions) room tt))
 
 pub replay-listed : (s r : List ℕ) (room : ℕ) → T (listed ofReplay (replayOf s r room))
@@ -220,7 +227,7 @@ replay-from-listed s m r room =
 -- an answer of the model that is a run, or refused with one of the numbers
 abbrev listedRun : List ℕ → Answer → Bool
 listedRun l (run w) = true
-listedRun l (refusal x) = mem (numberOf x) l
+listedRun l (refusal x) = listed l (refusing x)
 
 unless-listed : (l : List ℕ) (o : Option model.Refusal) (a : Answer) → T (listedIf l o) → T (listedRun l a) → T (listedRun l (unless o a))
 unless-listed l none a h t = t
@@ -238,7 +245,7 @@ ended-listed l (refusal x) c room h t = t
 
 -- ---- exchange
 
-if-listed : (l : List ℕ) (b : Bool) (number place : ℕ) → T (mem number l) → T (listedIf l (cond b none (some (other number place))))
+pub if-listed : (l : List ℕ) (b : Bool) (number place : ℕ) → T (listed l (refusedAt number place)) → T (listedIf l (cond b none (some (other number place))))
 if-listed l true number place h = tt
 if-listed l false number place h = h
 
@@ -252,7 +259,7 @@ exchange-listed s r k =
     judged-listed ofExchange s _ tt (λ n.
     swapping-listed ofExchange (exchange (netOf s) r k)
     (unless-listed ofExchange (tooLong r) _ (long-listed ofExchange r tt)
-    (unless-listed ofExchange (stuck (replay (netOf s) 0 (opening (netOf s)) r)) _ (stuck-listed ofExchange (replay (netOf s) 0 (opening (netOf s)) r) tt tt tt)
+    (unless-listed ofExchange (stuck model.ofTable (replay (netOf s) 0 (opening (netOf s)) r)) _ (stuck-listed ofExchange model.ofTable (replay (netOf s) 0 (opening (netOf s)) r) tt tt tt)
     (unless-listed ofExchange (noStep r k) _ (if-listed ofExchange (ltb (suc k) (length r)) 10 k tt)
     (unless-listed ofExchange (notApart (netOf s) r k) _ (if-listed ofExchange (apartStep (netOf s) (begin (netOf s)) r k) 17 k tt) tt)))))
 
@@ -263,7 +270,7 @@ unfolding lift lifting
 lift-answer n r =
     unless-listed ofLift (tooLong r) _ (long-listed ofLift r tt)
     (unless-listed ofLift (unfoldingRefused n) _ (unfolding-listed ofLift n tt tt)
-    (unless-listed ofLift (stuck (replay n 0 (opening n) r)) _ (stuck-listed ofLift (replay n 0 (opening n) r) tt tt tt)
+    (unless-listed ofLift (stuck model.ofTable (replay n 0 (opening n) r)) _ (stuck-listed ofLift model.ofTable (replay n 0 (opening n) r) tt tt tt)
     (unless-listed ofLift (again (repeated n (earliest n) 0 (opening n) r)) _ (again-listed (repeated n (earliest n) 0 (opening n) r)) tt)))
   where
     again-listed : (o : Option ℕ) → T (listedIf ofLift (again o))
@@ -275,7 +282,7 @@ unfolding project projecting
 project-answer n w =
     unless-listed ofProject (tooLong w) _ (long-listed ofProject w tt)
     (unless-listed ofProject (unfoldingRefused n) _ (unfolding-listed ofProject n tt tt)
-    (unless-listed ofProject (stuck (replay (basic n) 0 (opening (basic n)) w)) _ (stuck-listed ofProject (replay (basic n) 0 (opening (basic n)) w) tt tt tt) tt))
+    (unless-listed ofProject (stuck model.ofUnfolding (replay (basic n) 0 (opening (basic n)) w)) _ (stuck-listed ofProject model.ofUnfolding (replay (basic n) 0 (opening (basic n)) w) tt tt tt) tt))
 
 pub lift-listed : (s r : List ℕ) (room : ℕ) → T (listed ofLift (liftOf s r room))
 unfolding liftOf
@@ -321,7 +328,8 @@ unfolding unfoldedFireOf
 unfolded-fire-listed s m j =
     unfolding-of-listed ofUnfoldedFiring s _ tt
     (lent-listed ofUnfoldedFiring (basic (netOf s) .conditions) m _ tt
-    (listed-or ofUnfoldedFiring (stoppedAt 0 (stopping (basic (netOf s)) (marking m) j)) _ (steps-listed ofUnfoldedFiring 0 (stopping (basic (netOf s)) (marking m) j) tt tt tt) tt))
+    (listed-or ofUnfoldedFiring (firingStopped model.ofUnfolding (stopping (basic (netOf s)) (marking m) j)) _
+    (firing-stop-listed ofUnfoldedFiring model.ofUnfolding (stopping (basic (netOf s)) (marking m) j) tt tt tt) tt))
 
 -- ---- records of runs
 

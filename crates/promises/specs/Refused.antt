@@ -1,14 +1,15 @@
 -- Which refusals each call may give, and what a refusal leaves: demand 1.
 use mathlib.Core.Path.{_≡_}
-use mathlib.Core.Bool.{Bool, true}
+use mathlib.Core.Bool.{Bool, true, false, _&&_}
 use mathlib.Core.List.{List, [], _∷_, _++_}
 use Prim.Native.Nat.{ℕ}
 use lib.Dec.{T}
-use Rattle.lists.specs.Lists.{mem}
+use Rattle.lists.specs.Lists.{mem, same}
+use Rattle.refusal.specs.declared.By.{By}
+use Rattle.refusal.specs.declared.By.the-variants.{Nothing, Table, Unfolded}
 use Rattle.refusal.specs.declared.Refusal.{Refusal}
 use Rattle.refusal.specs.declared.Judged.{Judged}
 use Rattle.refusal.specs.declared.Judged.the-variants.{Fine, Refused}
-use Rattle.refusal.specs.Answer.{numberOf}
 use Rattle.outward.specs.declared.Answer.{Answer}
 
 -- ---- numbers by what is asked
@@ -103,12 +104,26 @@ ofPiece = 18 ∷ 16 ∷ []
 
 -- ---- what is promised
 
--- An answer is fine or refused with one of these numbers (01, Refusal numbers).
+-- With these numbers a condition stopped a step (02, No. 2).
+abbrev pub byCondition : List ℕ
+byCondition = 11 ∷ 12 ∷ []
+
+-- A condition is named (02, No. 2).
+abbrev pub naming : By → Bool
+naming Nothing = false
+naming (Table b) = true
+naming (Unfolded b) = true
+
+-- A refusal names the condition exactly with 11 and 12 (02, No. 2).
+abbrev pub named : Refusal → Bool
+named refusal = same (mem (refusal .number) byCondition) (naming (refusal .by))
+
+-- An answer is fine, or refused with one of these numbers and, exactly with 11 and 12, with the condition (01, Refusal numbers; 02, No. 2).
 abbrev pub listed : List ℕ → Judged → Bool
 listed numbers (Fine value) = true
-listed numbers (Refused refusal) = mem (numberOf (Refused refusal)) numbers
+listed numbers (Refused refusal) = mem (refusal .number) numbers && named refusal
 
--- A call is worked, or refused with one of these numbers while its lent memory stays as it was (01, Refusal numbers: demand 1).
+-- A call is worked, or refused with one of these numbers, as above, while its lent memory stays as it was (01, Refusal numbers: demand 1).
 pub record Refusing (numbers : List ℕ) (answer : Judged) (old new : List ℕ) : Type 0 where
   pub number : T (listed numbers answer)
   pub kept : (refusal : Refusal) → answer ≡ Refused refusal → new ≡ old
