@@ -1,10 +1,10 @@
 -- A cause and a step's answer with the unfolded condition in place of the table's.
 use Prim.Native.Nat.{ℕ}
-use mathlib.Core.Path.{_≡_, subst}
-use mathlib.Core.Option.{some}
+use mathlib.Core.Path.{_≡_, refl, subst}
+use mathlib.Core.Option.{Option, none, some}
 use lib.Dec.{T}
 use Rattle.lists.specs.Lists.{mem}
-use Rattle.model.specs.Net.{Net}
+use Rattle.model.specs.Net.{Net, Stop, unknown, lacks, meets}
 use Rattle.model.specs.Numbering.{conditionNumber}
 use Rattle.refusal.specs.declared.TableCondition.{TableCondition}
 use Rattle.step.specs.declared.Cause.{Cause}
@@ -16,6 +16,13 @@ use Rattle.unfolded_step.specs.declared.Step.the-variants as answer
 use Rattle.unfolded_step.specs.Steps.{stepOf}
 use Rattle.decided.specs.Decided.{Picks, lackedCondition, metCondition, unfoldedStop}
 use Rattle.located.specs.Located.{saidBy, stopOf, Left, Named, Told}
+
+-- what an answer says is what it was made of
+pub said-back : (o : Option Stop) → stopOf (Rattle.step.specs.Steps.stepOf o) ≡ o
+said-back none = refl
+said-back (some unknown) = refl
+said-back (some (lacks b)) = refl
+said-back (some (meets b)) = refl
 
 module _ (n : Net) (pick : Picks) (e : ℕ) where
   -- ---- what a cause names
