@@ -73,8 +73,8 @@ exchange-replayed s r k c h out =
     let d = exchange-exchanged (netOf s) r k w a .1 in
     let short = unless-run (tooLong r) (exchanging (netOf s) r k) w a .0 in
     let plays = exchanging-run (netOf s) r k w (unless-run (tooLong r) (exchanging (netOf s) r k) w a .1) .0 in
-    let old : stuck ofTable (replay (netOf s) 0 (opening (netOf s)) r) ≡ none = ap (stuck ofTable) ofTable (replay-runs (netOf s) 0 (opening (netOf s)) r plays) in
-    let new : stuck ofTable (replay (netOf s) 0 (opening (netOf s)) (exchanged k r)) ≡ none = ap (stuck ofTable) ofTable (replay-runs (netOf s) 0 (opening (netOf s)) (exchanged k r) (d .run)) in
+    let old : stuck ofTable (replay (netOf s) 0 (opening (netOf s)) r) ≡ none = ap (stuck ofTable) (replay-runs (netOf s) 0 (opening (netOf s)) r plays) in
+    let new : stuck ofTable (replay (netOf s) 0 (opening (netOf s)) (exchanged k r)) ≡ none = ap (stuck ofTable) (replay-runs (netOf s) 0 (opening (netOf s)) (exchanged k r) (d .run)) in
     let left : leaves (exchangeOf s r k) (exchanged k r) r ≡ exchanged k r = rw h in
     let same : replayOf s (exchanged k r) (length out) ≡ replayOf s r (length out) = simp (exchanged-short k r short, short, old, new) in
     record {
@@ -103,7 +103,7 @@ fire-replayed s m e c h =
     let count : length m ≡ netOf s .conditions = k .long ∙ conditions-are-all s (k .events) (k .judged) in
     let short : tooLong (e ∷ []) ≡ none = length-short (e ∷ []) (omega arith) in
     let free : stuck ofTable (replay (netOf s) 0 (begunAt (netOf s) (marking m)) (e ∷ [])) ≡ none
-    = ap (stuck ofTable) ofTable (replay-go (netOf s) 0 (begunAt (netOf s) (marking m)) e [] o) in
+    = ap (stuck ofTable) (replay-go (netOf s) 0 (begunAt (netOf s) (marking m)) e [] o) in
     let fits = fitting-room (netOf s .conditions) (length m) (omega arith) in
     let played : playedOf (netOf s) (begunAt (netOf s) (marking m)) (e ∷ []) (length m) ≡ refusedOr (firingStopped ofTable (stopping (netOf s) (marking m) e)) (Fine (netOf s .conditions))
     = rw (short, free, o) fits in

@@ -67,6 +67,7 @@ use Rattle.unfolding.proofs.owner.Reads as owner
 use Rattle.unfolding.proofs.colours_before.Reads as colours-before
 use Rattle.copies.proofs.write_copies.Reads as write-copies
 use Rattle.decided.proofs.decide.Reads as decide
+use Rattle.located.proofs.locate.Reads as locate
 use Rattle.segments.proofs.own.Reads as own
 use Rattle.segments.proofs.choose.Reads as choose
 use Rattle.segments.proofs.alone.Reads as alone
@@ -265,6 +266,9 @@ write-copies-one κs a r q x y h g = h ∙ sym g
 
 pub decide-one : (κs : _) (a : _) (r q : _) (x y : _) → decide.Learnt κs a r x → decide.Learnt κs a q y → r ≡ q
 decide-one κs a r q x y h g = h ∙ sym g
+
+pub locate-one : (κs : _) (a : _) (r q : _) (x y : _) → locate.Learnt κs a r x → locate.Learnt κs a q y → r ≡ q
+locate-one κs a r q x y h g = h ∙ sym g
 
 pub own-one : (κs : _) (a : _) (r q : _) (x y : _) → own.Learnt κs a r x → own.Learnt κs a q y → r ≡ q
 own-one κs a r q x y h g = h ∙ sym g

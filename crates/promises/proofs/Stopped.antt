@@ -49,19 +49,17 @@ use Rattle.promises.proofs.Refused.{listedIf, listed-or, listed-fitting
 -- ---- what is judged before
 
 -- it passes all on, or refuses all alike, and then with a number that no condition stands behind
-Judging : (Judged → Judged) → Type 0
+abbrev Judging : (Judged → Judged) → Type 0
 Judging p = ((a : Judged) → p a ≡ a) ⊎ ((x : declared.Refusal) × (T (mem (x .number) byCondition) → ⊥) × ((a : Judged) → p a ≡ Refused x))
 
 -- numbers that no condition stands behind
-plain : List ℕ → Bool
+abbrev plain : List ℕ → Bool
 plain l = all (λ x. not (mem x byCondition)) l
 
 plain-not : (l : List ℕ) → T (plain l) → (x : declared.Refusal) → T (listed l (Refused x)) → T (mem (x .number) byCondition) → ⊥
-unfolding plain
 plain-not l h x t = not-out (mem (x .number) byCondition) (all-at (λ y. not (mem y byCondition)) l h (x .number) (and-left (mem (x .number) l) (named x) t))
 
 judging-judge : (s : List ℕ) → Judging (λ a. andThen (judgeOf s) (λ n. a))
-unfolding Judging
 judging-judge s = go (judgeOf s) (judge-listed s)
   where
     go : (j : Judged) → T (listed ofTable j) → Judging (λ a. andThen j (λ n. a))
@@ -69,17 +67,15 @@ judging-judge s = go (judgeOf s) (judge-listed s)
     go (Refused x) t = inr (x, plain-not ofTable tt x t, λ a. refl)
 
 judging-or : (l : List ℕ) → T (plain l) → (o : Option Refusal) → T (listedIf l o) → Judging (refusedOr o)
-unfolding Judging
 judging-or l h none t = inl (λ a. refl)
 judging-or l h (some x) t = inr (record { number = model.numberOf x; place = model.placeOf x; by = refusalBy x }, plain-not l h (record { number = model.numberOf x; place = model.placeOf x; by = refusalBy x }) t, λ a. refl)
 
 judging-eighteen : (b : Bool) (place : ℕ) → Judging (need b 18 place)
-unfolding Judging need
+unfolding need
 judging-eighteen true place = inl (λ a. refl)
 judging-eighteen false place = inr (record { number = 18; place = place; by = Nothing }, λ t. t, λ a. refl)
 
 judging-both : (p q : Judged → Judged) → Judging p → Judging q → Judging (λ a. p (q a))
-unfolding Judging
 judging-both p q (inl f) (inl g) = inl (λ a. f (q a) ∙ g a)
 judging-both p q (inl f) (inr y) = inr (y .0, y .1, λ a. f (q a) ∙ y .2 a)
 judging-both p q (inr x) g = inr (x .0, x .1, λ a. x .2 (q a))
@@ -90,16 +86,13 @@ judging-lent c m = judging-both (need (eqb (length m) c) 18 c) (need (leb (lengt
     (judging-eighteen (eqb (length m) c) c) (judging-eighteen (leb (length m) (firstAbove m)) (firstAbove m))
 
 judging-long : (r : List ℕ) → Judging (refusedOr (tooLong r))
-unfolding plain
 judging-long r = judging-or (3 ∷ []) tt (tooLong r) (long-listed (3 ∷ []) r tt)
 
 judging-unfolding : (s : List ℕ) → Judging (refusedOr (unfoldingRefused (netOf s)))
-unfolding plain
 judging-unfolding s = judging-or (13 ∷ 14 ∷ []) tt (unfoldingRefused (netOf s)) (unfolding-listed (13 ∷ 14 ∷ []) (netOf s) tt tt)
 
 -- a refusal that names a condition comes after what passes
 named-after : (p : Judged → Judged) → Judging p → (a : Judged) (x : declared.Refusal) → T (mem (x .number) byCondition) → (p a ≡ Refused x) ↔ (Passes p × (a ≡ Refused x))
-unfolding Judging
 named-after p (inl f) a x t = (λ h. (f (Fine 0), sym (f a) ∙ h), λ h. f a ∙ h .1)
 named-after p (inr y) a x t = (
   λ h. let same : y .0 .number ≡ x .number = ap numberOf (sym (y .2 a) ∙ h) in
@@ -253,7 +246,6 @@ judging-across s r =
     judging-both (beforeRun s r) (refusedOr (unfoldingRefused (netOf s))) (judging-run s r) (judging-unfolding s)
 
 room-unnamed : (c room : ℕ) → Unnamed (fitting c room)
-unfolding plain
 room-unnamed c room = unnamed (16 ∷ []) tt (fitting c room) (listed-fitting (16 ∷ []) c room tt)
 
 pub replay-names : (s r : List ℕ) (room : ℕ) → RunNames (beforeRun s r) model.ofTable (netOf s) (begin (netOf s)) r (replayOf s r room)
@@ -275,7 +267,7 @@ told-unless f h none a = refl
 told-unless f h (some x) a = h x
 
 pub exchange-names : (s r : List ℕ) (k : ℕ) → RunNames (beforeRun s r) model.ofTable (netOf s) (begin (netOf s)) r (exchangeOf s r k)
-unfolding exchangeOf exchange exchanging noStep notApart opening plain
+unfolding exchangeOf exchange exchanging noStep notApart opening
 exchange-names s r k =
     let n = netOf s in
     let steps = stuck model.ofTable (replay n 0 (opening n) r) in
