@@ -10,7 +10,7 @@ use lib.Dec.{T, eqb}
 use lib.ListN.{length, getD, set, take, length-set}
 use lib.Seq.{take-suc, getD-set-same, getD-set-other}
 use borrow.Author.Tests.{eqb-true, eqb-false}
-use Rattle.model.specs.Net.{Net, Marking, begin, can, fire, Stop, unknown, stopNumber, stopping}
+use Rattle.model.specs.Net.{Net, Marking, begin, can, fire, Stop, unknown, lacks, meets, stopping}
 use Rattle.model.specs.Runs.{State, opening, step, after, runs}
 use Rattle.model.specs.Unfolding.{reads, origin, basic, UnfoldedEvent}
 use Rattle.model.specs.Across.{readBack}
@@ -23,18 +23,23 @@ use Rattle.table.specs.Walk.{offsetOf}
 use Rattle.table.specs.Decoded.{netOf}
 use Rattle.tally.proofs.Events.{within-limits}
 use Rattle.step.specs.declared.Cause.{Cause}
-use Rattle.step.specs.declared.Cause.the-variants.{Unknown}
 use Rattle.step.specs.declared.Step.{Step}
 use Rattle.step.specs.declared.Step.the-variants.{Goes, Stops}
 use Rattle.step.specs.Lent.{Lent}
-use Rattle.step.specs.Steps.{recordNet, causeOf, causeNumber, stepOf, stepped}
+use Rattle.step.specs.Steps.{recordNet, stepOf, stepped}
+use Rattle.unfolded_step.specs.declared.Cause.the-variants.{Unknown}
+use Rattle.unfolded_step.specs.declared.Step as declared
+use Rattle.unfolded_step.specs.declared.Step.the-variants as answers
+use Rattle.unfolded_step.specs.Steps as unfolded
 use Rattle.game.proofs.Found.{stopping-found, fire-found}
 use Rattle.played.proofs.Playing.{fired-marking}
 use Rattle.step.proofs.Bytes.{lent-bytes, lent-at}
-use Rattle.decided.specs.Decided.{numberOfStop}
+use Rattle.decided.specs.Decided.{Picks, unfoldedStop}
+use Rattle.located.specs.Located.{stopOf}
+use Rattle.located.proofs.Answers.{said-back}
 use Rattle.decided.specs.Kept.{markerAt}
 use Rattle.decided.proofs.Decision.{decided}
-use Rattle.project.specs.Walked.{Numbered, stateAt, unfoldedAt, Walked, Underway, Coloured, Stepped, Fires, stopsAt, Trying}
+use Rattle.project.specs.Walked.{Numbered, stateAt, unfoldedAt, Walked, Underway, Coloured, Stepped, Fires, stopsAt, Tried}
 use Rattle.project.proofs.Located.{past-last, among}
 use Rattle.project.proofs.Apart.{all-events, few-events}
 
@@ -71,22 +76,15 @@ lent-set l e h = bytes-marking (set l e 1) (λ i p. go i (subst (λ (x : ℕ). i
     go i p true q = let z : i ≡ e = eqb-true i e q in rw (z, getD-set-same l e 1 0 (subst (λ (x : ℕ). x < length l) z p)) (omega arith)
     go i p false q = rw (getD-set-other l e i 1 0 (eqb-false i e q), lent-at l h i p) (bit-low (marking l i))
 
--- ---- numbers of what stops a step
-
-number-none : (o : Option Stop) → numberOfStop o ≡ 0 → o ≡ none
-number-none none e = refl
-number-none (some unknown) e = absurd (omega arith)
-number-none (some (Rattle.model.specs.Net.lacks b)) e = absurd (omega arith)
-number-none (some (Rattle.model.specs.Net.meets b)) e = absurd (omega arith)
+-- ---- what stops a step
 
 goes-none : (o : Option Stop) (r : Step) → r ≡ stepOf o → r ≡ Goes → o ≡ none
 goes-none none r t z = refl
 goes-none (some v) r t z = absurd (let y : _≡_ {A = ℕ} 0 1 = cc in omega arith)
 
-cause-number : (v : Stop) → stopNumber v ≡ causeNumber (causeOf v)
-cause-number unknown = refl
-cause-number (Rattle.model.specs.Net.lacks b) = refl
-cause-number (Rattle.model.specs.Net.meets b) = refl
+-- what stops a step, by unfolded conditions
+pub located-as : (n : Net) (pick : Picks) (e : ℕ) (o : Option Stop) (r : Step) → r ≡ stepOf o → unfolded.stepOf (unfoldedStop n pick e (stopOf r)) ≡ unfolded.stepOf (unfoldedStop n pick e o)
+located-as n pick e o r t = ap (λ (x : Option Stop). unfolded.stepOf (unfoldedStop n pick e x)) (ap stopOf t ∙ said-back o)
 
 -- a step that is stopped leaves bytes as they were
 step-stays : (o : Option Stop) (r : Step) (x : Cause) → r ≡ stepOf o → r ≡ Stops x → (new old : List ℕ) → old ≡ stepped o new old
@@ -134,8 +132,8 @@ module _ (s offsets ms us before begun w : List ℕ) (k : ℕ) (state seen place
   all = all-events s offsets ms before numbered
 
   -- a number of no unfolded event
-  pub stops-unknown : getD before (length offsets) 0 ≤ j → numberOfStop (stopping (basic n) (unfoldedAt n w k) j) ≡ causeNumber Unknown
-  stops-unknown l = ap numberOfStop (past-last n before (numbered .sizes) j (omega (arith, ap (λ (x : ℕ). getD before x 0) all)) (unfoldedAt n w k))
+  pub stops-unknown : getD before (length offsets) 0 ≤ j → unfolded.stepOf (stopping (basic n) (unfoldedAt n w k) j) ≡ answers.Stops Unknown
+  stops-unknown l = ap unfolded.stepOf (past-last n before (numbered .sizes) j (omega (arith, ap (λ (x : ℕ). getD before x 0) all)) (unfoldedAt n w k))
 
   module _ (l : j < getD before (length offsets) 0) (e : ℕ) (ps ks : List ℕ) (d : Coloured n j e ps ks) where
     abbrev at : ℕ
@@ -159,15 +157,21 @@ module _ (s offsets ms us before begun w : List ℕ) (k : ℕ) (state seen place
     abbrev told : Option Stop
     told = stopsAt s e state seen ps
 
-    same-number : numberOfStop (stopping (basic n) (unfoldedAt n w k) j) ≡ numberOfStop told
-    same-number =
+    abbrev unfoldedTold : Option Stop
+    unfoldedTold = unfoldedStop n (markerAt n ps) e told
+
+    same-stop : stopping (basic n) (unfoldedAt n w k) j ≡ unfoldedTold
+    same-stop =
         decided n (within-limits s e (d .event) .sound) (stateAt n w k) (unfoldedAt n w k) copied j (among n before (numbered .sizes) j (rw (← all) l)) (markerAt n ps) colour-is
         ∙ rw (event-is, c .here, c .occurred) refl
+
+    same-step : (o : Option Stop) → told ≡ o → unfolded.stepOf (stopping (basic n) (unfoldedAt n w k) j) ≡ unfolded.stepOf (unfoldedStop n (markerAt n ps) e o)
+    same-step o z = ap unfolded.stepOf (same-stop ∙ ap (unfoldedStop n (markerAt n ps) e) z)
 
     -- it goes
     module _ (t : told ≡ none) where
       unfolded-can : T (can (basic n) (unfoldedAt n w k) j)
-      unfolded-can = none-can (basic n) (unfoldedAt n w k) j (number-none (stopping (basic n) (unfoldedAt n w k) j) (same-number ∙ ap numberOfStop t))
+      unfolded-can = none-can (basic n) (unfoldedAt n w k) j (same-stop ∙ ap (unfoldedStop n (markerAt n ps) e) t)
 
       table-can : T (can n (marking state) e)
       table-can =
@@ -210,25 +214,37 @@ module _ (s offsets ms us before begun w : List ℕ) (k : ℕ) (state seen place
             held = d .held;
           }
 
-    pub trying : Trying s us at e begun state seen ps ks
-    trying = record {
-      deciding = record {
-        flags = numbered .marked .flags;
-        uses = q .equipped .uses;
+    pub tried : Tried s offsets ms us begun e state seen ps ks
+    tried = record {
+      below = low;
+      trying = record {
+        deciding = record {
+          flags = numbered .marked .flags;
+          uses = q .equipped .uses;
+          event = d .event;
+          offset = offset-is;
+          start = q .equipped .start;
+          held = d .held;
+        };
+        room = omega (arith, low, few-events s offsets ms before numbered, c .wide);
+        fires = fires;
+      };
+      locating = record {
+        counted = record { marked = numbered .marked; uses = q .equipped .uses };
+        few = q .equipped .few-conditions;
+        all = all;
         event = d .event;
-        offset = offset-is;
-        start = q .equipped .start;
         held = d .held;
       };
-      room = omega (arith, low, few-events s offsets ms before numbered, c .wide);
-      fires = fires;
     }
 
-    pub step-told : (r : Step) (new noted : List ℕ) → r ≡ stepOf told → new ≡ stepped told (bytes (length state) (fire (recordNet s at) (marking state) 0)) state
+    pub step-told : (r : declared.Step) (new noted : List ℕ) → r ≡ unfolded.stepOf unfoldedTold → new ≡ stepped told (bytes (length state) (fire (recordNet s at) (marking state) 0)) state
         → noted ≡ stepped told (set seen e 1) seen → Stepped n w k r new noted ps ks
     step-told r new noted t x y = go told refl t x y
       where
-        go : (o : Option Stop) → told ≡ o → r ≡ stepOf o → new ≡ stepped o (bytes (length state) (fire (recordNet s at) (marking state) 0)) state
+        go : (o : Option Stop) → told ≡ o → r ≡ unfolded.stepOf (unfoldedStop n (markerAt n ps) e o) → new ≡ stepped o (bytes (length state) (fire (recordNet s at) (marking state) 0)) state
             → noted ≡ stepped o (set seen e 1) seen → Stepped n w k r new noted ps ks
         go none z t x y = rw t (walked-on z new noted x y)
-        go (some v) z t x y = rw t (same-number ∙ ap numberOfStop z ∙ cause-number v)
+        go (some unknown) z t x y = rw t (same-step (some unknown) z)
+        go (some (lacks b)) z t x y = rw t (same-step (some (lacks b)) z)
+        go (some (meets b)) z t x y = rw t (same-step (some (meets b)) z)

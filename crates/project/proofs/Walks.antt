@@ -11,7 +11,7 @@ use lib.Seq.{take-all, split-at, length-take-le}
 use Rattle.lists.proofs.Places.{replicate-at}
 use Rattle.words.specs.Words.{words}
 use Rattle.records.specs.Records.{flags, prePart, postPart}
-use Rattle.model.specs.Net.{Net, begin, fire, Stop, stopNumber, stopping}
+use Rattle.model.specs.Net.{Net, begin, fire, Stop, unknown, lacks, meets, stopping}
 use Rattle.model.specs.Runs.{opening, after, runs, replay}
 use Rattle.model.specs.Unfolding.{basic}
 use Rattle.model.specs.Across.{ofUnfolding, stopped, stuck, mostSteps, readBack}
@@ -26,13 +26,16 @@ use Rattle.table.specs.Walk.{judgeOf}
 use Rattle.table.specs.Decoded.{netOf}
 use Rattle.table.proofs.Decoded.{events-are-all}
 use Rattle.table.proofs.Sound.{tabled}
-use Rattle.step.specs.declared.Cause.{Cause}
-use Rattle.step.specs.declared.Step.{Step}
-use Rattle.step.specs.declared.Step.the-variants.{Goes, Stops}
-use Rattle.step.specs.Steps.{setAll, recordNet, causeNumber, stepOf, stepped, answeredOf}
+use Rattle.table.specs.Links.{refusing}
+use Rattle.step.specs.declared.Step.the-variants as answers
+use Rattle.step.specs.Steps as played
+use Rattle.step.specs.Steps.{setAll, recordNet, stepped}
+use Rattle.unfolded_step.specs.declared.Cause.{Cause}
+use Rattle.unfolded_step.specs.declared.Step.{Step}
+use Rattle.unfolded_step.specs.declared.Step.the-variants.{Goes, Stops}
+use Rattle.unfolded_step.specs.Steps.{causeOf, stepOf, stoppedAt}
 use Rattle.step.proofs.Bytes.{lent-bytes}
 use Rattle.step.proofs.Firing.{step-written}
-use Rattle.decided.specs.Decided.{numberOfStop}
 use Rattle.decided.specs.Kept.{Kept}
 use Rattle.decided.proofs.Places.{marker-first}
 use Rattle.project.specs.Walked.{stateAt, unfoldedAt, Walked, Stepped, Fires, Replayed}
@@ -42,7 +45,7 @@ use Rattle.project.specs.Walked.{stateAt, unfoldedAt, Walked, Stepped, F
 pub fire-written : (s l : List ℕ) (at : ℕ) → Fires s at l → (f pre post : List ℕ) → f ≡ flags s → pre ≡ prePart s at → post ≡ postPart s at
     → setAll [] 1 (words post) (setAll f 0 (words pre) l) ≡ bytes (length l) (fire (recordNet s at) (marking l) 0)
 fire-written s l at h f pre post isF isPre isPost =
-    step-written s l at Goes (sym (ap stepOf (h .goes))) refl (h .lents) f pre post isF isPre isPost
+    step-written s l at answers.Goes (sym (ap played.stepOf (h .goes))) refl (h .lents) f pre post isF isPre isPost
     ∙ ap (λ (o : Option Stop). stepped o (bytes (length l) (fire (recordNet s at) (marking l) 0)) l) (h .goes)
 
 -- ---- the start
@@ -76,31 +79,35 @@ walked-start s events j w state seen places kept short isState isSeen isPlaces i
 
 -- ---- the end
 
-some-stop : (o : Option Stop) (x : Cause) → numberOfStop o ≡ causeNumber x → (v : Stop) × (o ≡ some v) × (stopNumber v ≡ causeNumber x)
-some-stop none Rattle.step.specs.declared.Cause.the-variants.Unknown e = absurd (omega arith)
-some-stop none (Rattle.step.specs.declared.Cause.the-variants.Lacks b) e = absurd (omega arith)
-some-stop none (Rattle.step.specs.declared.Cause.the-variants.Meets b) e = absurd (omega arith)
-some-stop (some v) x e = (v, refl, e)
+some-stop : (o : Option Stop) (x : Cause) → stepOf o ≡ Stops x → (v : Stop) × (o ≡ some v) × (x ≡ causeOf v)
+some-stop none x e = absurd (let z : _≡_ {A = ℕ} 0 1 = cc in omega arith)
+some-stop (some v) x e = (v, refl, cc)
+
+-- what stops a step of the unfolded net is the model's refusal at it
+stopped-is : (v : Stop) (k : ℕ) → stoppedAt (causeOf v) k ≡ refusing (stopped ofUnfolding v k)
+stopped-is unknown k = refl
+stopped-is (lacks b) k = refl
+stopped-is (meets b) k = refl
 
 module _ (n : Net) (w : List ℕ) (k : ℕ) (state seen places kept : List ℕ) (c : Walked n w k state seen places kept) where
   -- a step is stopped
-  stops-at : k < length w → (x : Cause) → numberOfStop (stopping (basic n) (unfoldedAt n w k) (getD w k 0)) ≡ causeNumber x
-      → (answer : Judged) → answer ≡ answeredOf (Stops x) k 0 → (l m : List ℕ) → Replayed n w answer l m
+  stops-at : k < length w → (x : Cause) → stepOf (stopping (basic n) (unfoldedAt n w k) (getD w k 0)) ≡ Stops x
+      → (answer : Judged) → answer ≡ stoppedAt x k → (l m : List ℕ) → Replayed n w answer l m
   unfolding opening
   stops-at h x o answer a l m =
-      let v = some-stop (stopping (basic n) (unfoldedAt n w k) (getD w k 0)) x o in
-      let stuck-is : stuck ofUnfolding (replay (basic n) 0 (opening (basic n)) w) ≡ some (stopped (v .0) k)
-      = ap stuck (stops-replay (basic n) 0 (opening (basic n)) w (v .0) k record {
+      let (v, is, z) = some-stop (stopping (basic n) (unfoldedAt n w k) (getD w k 0)) x o in
+      let stuck-is : stuck ofUnfolding (replay (basic n) 0 (opening (basic n)) w) ≡ some (stopped ofUnfolding v k)
+      = ap (stuck ofUnfolding) (stops-replay (basic n) 0 (opening (basic n)) w v k record {
         before = take k w;
         event = getD w k 0;
         rest = drop (suc k) w;
         splits = split-at w k 0 h;
         place = rw (length-take-le k w (c .upto), zero-add);
         plays = c .plays;
-        stops = v .1;
+        stops = is;
       }) in
       record {
-        told = a ∙ rw (stuck-is, v .2) refl;
+        told = a ∙ ap (λ (y : Cause). stoppedAt y k) z ∙ stopped-is v k ∙ rw stuck-is refl;
         plays = λ y f. never-both (sym f ∙ a);
         lents = λ y f. never-both (sym f ∙ a);
         here = λ y f. never-both (sym f ∙ a);
@@ -108,9 +115,8 @@ module _ (n : Net) (w : List ℕ) (k : ℕ) (state seen places kept : List ℕ) 
       }
 
   pub walk-stops : k < length w → (r : Step) (a b d e : List ℕ) → Stepped n w k r a b d e → (x : Cause) → r ≡ Stops x
-      → (answer : Judged) → answer ≡ answeredOf r k 0 → (l m : List ℕ) → Replayed n w answer l m
-  walk-stops h r a b d e o x z answer t l m =
-      stops-at h x (subst (λ (y : Step). Stepped n w k y a b d e) z o) answer (t ∙ ap (λ (y : Step). answeredOf y k 0) z) l m
+      → (answer : Judged) → answer ≡ stoppedAt x k → (l m : List ℕ) → Replayed n w answer l m
+  walk-stops h r a b d e o x z answer t l m = stops-at h x (subst (λ (y : Step). Stepped n w k y a b d e) z o) answer t l m
 
   -- all steps are walked
   pub walk-ends : length w ≤ k → Replayed n w (Fine (length w)) state seen

@@ -9,8 +9,8 @@ use lib.ListN.{length, getD, take}
 use Rattle.model.specs.Net.{Net, Marking, begin, Stop, stopping}
 use Rattle.model.specs.Runs.{State, opening, after, runs, end, replay}
 use Rattle.model.specs.Unfolding.{reads, origin, basic}
-use Rattle.model.specs.Numbering.{size, eventCount}
-use Rattle.model.specs.Across.{stuck, mostSteps, mostUnfolded, readBack}
+use Rattle.model.specs.Numbering.{size, conditionCount, eventCount}
+use Rattle.model.specs.Across.{ofUnfolding, stuck, mostSteps, mostUnfolded, readBack}
 use Rattle.model.specs.Lent.{bytes, marking}
 use Rattle.refusal.specs.declared.Judged.{Judged}
 use Rattle.refusal.specs.declared.Judged.the-variants.{Fine}
@@ -18,15 +18,17 @@ use Rattle.table.specs.Walk.{judgeOf}
 use Rattle.table.specs.Decoded.{netOf}
 use Rattle.table.specs.Links.{refusedOr}
 use Rattle.layout.specs.Laid.{Sums, Counted, Marked}
-use Rattle.step.specs.declared.Step.{Step}
-use Rattle.step.specs.declared.Step.the-variants.{Goes, Stops}
 use Rattle.step.specs.Lent.{Lent}
-use Rattle.step.specs.Steps.{recordNet, causeNumber}
+use Rattle.step.specs.Steps.{recordNet}
+use Rattle.unfolded_step.specs.declared.Step.{Step}
+use Rattle.unfolded_step.specs.declared.Step.the-variants.{Goes, Stops}
+use Rattle.unfolded_step.specs.Steps.{stepOf}
 use Rattle.played.specs.Played.{Indexed}
 use Rattle.tally.specs.Having.{Tally}
 use Rattle.across.specs.Prepared.{Between}
-use Rattle.decided.specs.Decided.{stoppedBy, numberOfStop}
+use Rattle.decided.specs.Decided.{stoppedBy}
 use Rattle.decided.specs.Kept.{markerAt, Kept, Deciding}
+use Rattle.located.specs.Located.{Locating}
 
 -- A judged table with all that the numbers of its unfolded events are taken apart by: offsets, numbers of markers, and sums.
 pub record Numbered (s offsets ms before : List ℕ) : Type 0 where
@@ -36,9 +38,11 @@ pub record Numbered (s offsets ms before : List ℕ) : Type 0 where
   pub few : eventCount (netOf s) ≤ mostUnfolded
   pub sizes : Sums (size (netOf s)) (netOf s .events) before
 
--- Such a table with all that its unfolded steps are decided by: the numbers of users and its start too.
+-- Such a table with all that its unfolded steps are decided by, and that what stops them is told by: the numbers of users and its start
+-- too.
 pub record Equipped (s offsets ms us before begun : List ℕ) : Type 0 where
   pub numbered : Numbered s offsets ms before
+  pub few-conditions : conditionCount (netOf s) ≤ mostUnfolded
   pub uses : Tally (netOf s) false 0 (netOf s .events) us
   pub start : begun ≡ bytes 256 (begin (netOf s))
 
@@ -74,11 +78,11 @@ pub record Coloured (n : Net) (j e : ℕ) (places kept : List ℕ) : Type 0 wher
   pub whole : origin n j ≡ record { event = e; colour = map (markerAt n places) (reads n e) }
   pub held : Kept n places kept
 
--- A step answers that it goes, and then the bytes are one step on, or with the number of what stops it in the unfolded net (01,
--- Refusal numbers).
+-- A step answers that it goes, and then the bytes are one step on, or with what stops it in the unfolded net (01, Refusal numbers; 02,
+-- No. 2).
 abbrev pub Stepped : Net → List ℕ → ℕ → Step → List ℕ → List ℕ → List ℕ → List ℕ → Type 0
 Stepped n w k Goes state seen places kept = Walked n w (k + 1) state seen places kept
-Stepped n w k (Stops x) state seen places kept = numberOfStop (stopping (basic n) (unfoldedAt n w k) (getD w k 0)) ≡ causeNumber x
+Stepped n w k (Stops x) state seen places kept = stepOf (stopping (basic n) (unfoldedAt n w k) (getD w k 0)) ≡ Stops x
 
 -- An event can be fired on bytes: nothing stops the one whose record stands at an offset.
 pub record Fires (s : List ℕ) (at : ℕ) (state : List ℕ) : Type 0 where
@@ -95,10 +99,16 @@ pub record Trying (s us : List ℕ) (at e : ℕ) (begun state seen places kept :
   pub room : e < length seen
   pub fires : stopsAt s e state seen places ≡ none → Fires s at state
 
+-- The same for the event whose record stands at its offset, with all that what stops it is told by.
+pub record Tried (s offsets ms us begun : List ℕ) (e : ℕ) (state seen places kept : List ℕ) : Type 0 where
+  pub below : e < length offsets
+  pub trying : Trying s us (getD offsets e 0) e begun state seen places kept
+  pub locating : Locating s ms us (length offsets) e places kept
+
 -- All steps replayed: the answer is what the unfolded net's replay says, and where it is fine the bytes tell the end (01, Refusal
 -- numbers).
 pub record Replayed (n : Net) (w : List ℕ) (r : Judged) (state seen : List ℕ) : Type 0 where
-  pub told : r ≡ refusedOr (stuck (replay (basic n) 0 (opening (basic n)) w)) (Fine (length w))
+  pub told : r ≡ refusedOr (stuck ofUnfolding (replay (basic n) 0 (opening (basic n)) w)) (Fine (length w))
   pub plays : (x : ℕ) → r ≡ Fine x → T (runs (basic n) (begin (basic n)) w)
   pub lents : (x : ℕ) → r ≡ Fine x → (state ≡ bytes 256 (marking state)) × (seen ≡ bytes 256 (marking seen))
   pub here : (x : ℕ) → r ≡ Fine x → marking state ≡ stateAt n w (length w) .marking
@@ -110,6 +120,7 @@ pub record Replayable (s : List ℕ) (events : ℕ) (ms us before w : List ℕ) 
   pub judged : judgeOf s ≡ Fine events
   pub counted : Counted s ms us
   pub few : eventCount (netOf s) ≤ mostUnfolded
+  pub few-conditions : conditionCount (netOf s) ≤ mostUnfolded
   pub sizes : Sums (size (netOf s)) (netOf s .events) before
 
 -- Each number of a run lies before the last of so many sums.

@@ -1,7 +1,7 @@
 // The projection of an unfolded run: its steps replayed over the table's marking and the events that have occurred, then read back.
 use refusal::Judged;
-use step::Cause;
-use step::Step;
+use unfolded_step::Cause;
+use unfolded_step::Step;
 ghost use mathlib.Core.Path.{_≡_};
 ghost use Prim.Native.Nat.{_≤_, _<_};
 ghost use lib.ListN.{length, getD, set, replicate};
@@ -9,9 +9,12 @@ ghost use Rattle.model.specs.Net.{fire};
 ghost use Rattle.model.specs.Lent.{bytes, marking};
 ghost use Rattle.refusal.specs.Answer.{valueOf, fitting};
 ghost use Rattle.table.specs.Decoded.{netOf};
-ghost use Rattle.step.specs.Steps.{recordNet, stepOf, stepped};
-ghost use Rattle.decided.specs.Kept.{Kept};
-ghost use Rattle.project.specs.Walked.{Numbered, Underway, Coloured, Stepped, Fires, stopsAt, Trying, Replayed, Replayable, Reading, Read};
+ghost use Rattle.step.specs.Steps as played;
+ghost use Rattle.step.specs.Steps.{recordNet, stepped};
+ghost use Rattle.unfolded_step.specs.Steps.{stepOf};
+ghost use Rattle.decided.specs.Decided.{unfoldedStop};
+ghost use Rattle.decided.specs.Kept.{markerAt, Kept};
+ghost use Rattle.project.specs.Walked.{Numbered, Underway, Coloured, Stepped, Fires, stopsAt, Trying, Tried, Replayed, Replayable, Reading, Read};
 ghost use Rattle.project.specs.Calls.{projectOf, projectedOf};
 
 // The event whose record stands at an offset, fired on the bytes of a marking.
@@ -60,9 +63,9 @@ fn step_event<'a>(
     seen: &mut [u8],
     places: &'a [u32],
     kept: &'a [u32],
-) -> Step
+) -> step::Step
     requires { ⌜ Trying (now table) (now users) at e (now begun) (now state) (now seen) (now places) (now kept) ⌝ }
-    ensures answer { λ r. ⌜ r ≡ stepOf (stopsAt (now (table .entry)) e (now (state .entry)) (now (seen .entry)) (now (places .entry))) ⌝ }
+    ensures answer { λ r. ⌜ r ≡ played.stepOf (stopsAt (now (table .entry)) e (now (state .entry)) (now (seen .entry)) (now (places .entry))) ⌝ }
     ensures after { λ _. ⌜ now (state .exit) ≡ stepped (stopsAt (now (table .entry)) e (now (state .entry)) (now (seen .entry)) (now (places .entry))) (bytes (length (now (state .entry))) (fire (recordNet (now (table .entry)) at) (marking (now (state .entry))) 0)) (now (state .entry)) ⌝ }
     ensures noted { λ _. ⌜ now (seen .exit) ≡ stepped (stopsAt (now (table .entry)) e (now (state .entry)) (now (seen .entry)) (now (places .entry))) (set (now (seen .entry)) e 1) (now (seen .entry)) ⌝ }
 {
@@ -77,12 +80,35 @@ fn step_event<'a>(
         places,
         kept,
     );
-    let Step::Goes = answer else {
+    let step::Step::Goes = answer else {
         return answer;
     };
     fire_at(table, at, state);
     seen[e] = 1;
     answer
+}
+
+// The same for the event whose colour is laid out, with what stops it told by unfolded conditions.
+fn step_coloured<'a>(
+    table: &'a [u8],
+    offsets: &'a [usize],
+    markers: &'a [u32],
+    users: &'a [u32],
+    begun: &'a [u8],
+    e: usize,
+    state: &mut [u8],
+    seen: &mut [u8],
+    places: &'a [u32],
+    kept: &'a [u32],
+) -> Step
+    requires { ⌜ Tried (now table) (now offsets) (now markers) (now users) (now begun) e (now state) (now seen) (now places) (now kept) ⌝ }
+    ensures answer { λ r. ⌜ r ≡ stepOf (unfoldedStop (netOf (now (table .entry))) (markerAt (netOf (now (table .entry))) (now (places .entry))) e (stopsAt (now (table .entry)) e (now (state .entry)) (now (seen .entry)) (now (places .entry)))) ⌝ }
+    ensures after { λ _. ⌜ now (state .exit) ≡ stepped (stopsAt (now (table .entry)) e (now (state .entry)) (now (seen .entry)) (now (places .entry))) (bytes (length (now (state .entry))) (fire (recordNet (now (table .entry)) (getD (now (offsets .entry)) e 0)) (marking (now (state .entry))) 0)) (now (state .entry)) ⌝ }
+    ensures noted { λ _. ⌜ now (seen .exit) ≡ stepped (stopsAt (now (table .entry)) e (now (state .entry)) (now (seen .entry)) (now (places .entry))) (set (now (seen .entry)) e 1) (now (seen .entry)) ⌝ }
+{
+    let at = offsets[e];
+    let told = step_event(table, at, e, users, begun, state, seen, places, kept);
+    located::locate(table, offsets.len(), markers, users, e, places, kept, told)
 }
 
 // Step k of an unfolded run: its event is found, its colour laid out and tested, and the event fired on the table's marking.
@@ -109,12 +135,13 @@ fn step_unfolded<'a>(
         return Step::Stops(Cause::Unknown);
     }
     let e = lay_colour(table, offsets, markers, before, j, places, kept);
-    step_event(
+    step_coloured(
         table,
-        offsets[e],
-        e,
+        offsets,
+        markers,
         users,
         begun,
+        e,
         state,
         seen,
         &places[..],
@@ -155,9 +182,9 @@ fn play<'a>(
             places,
             kept,
         );
-        let Step::Goes = step else {
-            return step::answered(step, k, 0);
-        };
+        if let Step::Stops(cause) = step {
+            return unfolded_step::stopped_at(cause, k);
+        }
         k = k + 1;
     }
     Judged::Fine(lifted.len())

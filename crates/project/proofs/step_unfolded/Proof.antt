@@ -1,7 +1,7 @@
 -- `project::step_unfolded` meets its contract.
 use native.Mathlib.Omega.{arith}
-use Rattle.project.proofs.Apart.{all-events, few-events}
-use Rattle.project.proofs.Steps.{stops-unknown, trying, step-told}
+use Rattle.project.proofs.Apart.{few-events}
+use Rattle.project.proofs.Steps.{stops-unknown, tried, step-told}
 use borrow.Author.Needs.{needs}
 use Rattle.project.proofs.step_unfolded.Statement.{statement}
 use Rattle.project.proofs.step_unfolded.Tie as tie
@@ -18,17 +18,13 @@ returns : tie.Need-returns
 returns c =
     stops-unknown _ _ _ _ _ _ _ _ _ _ _ _ (c .before .before .before .before .before .before .before .before .before .before .before .before .before .before .pre .0) (c .before .before .before .before .before .before .before .before .before .before .before .before .before .before .pre .1) (c .if1 .taken)
 
-shared-slice-read-step-event : tie.Need-shared-slice-read-step-event
-shared-slice-read-step-event c =
-    omega (arith, c .before .before .before .before .before .lay-colour .ensures .event, all-events _ _ _ _ (c .before .before .before .before .before .before .before .before .before .before .before .before .before .before .before .before .before .before .before .before .before .before .pre .0 .equipped .numbered))
-
-step-event-requires : tie.Need-step-event-requires
-step-event-requires c κs =
-    trying _ _ _ _ _ _ _ _ _ _ _ _ (c .before .before .before .before .before .before .before .before .before .before .before .before .before .before .before .before .before .before .before .before .before .before .before .before .before .before .pre .0) (c .before .before .before .before .before .before .before .before .before .before .before .before .before .before .before .before .before .before .before .before .before .before .before .before .before .before .pre .1) (c .before .before .before .before .before .before .before .before .before .before .before .before .if1 .left) _ _ _ (c .before .before .before .before .before .before .before .before .before .lay-colour .ensures)
+step-coloured-requires : tie.Need-step-coloured-requires
+step-coloured-requires c κs =
+    tried _ _ _ _ _ _ _ _ _ _ _ _ (c .before .before .before .before .before .before .before .before .before .before .before .before .before .before .before .before .before .before .before .before .before .before .before .before .before .pre .0) (c .before .before .before .before .before .before .before .before .before .before .before .before .before .before .before .before .before .before .before .before .before .before .before .before .before .pre .1) (c .before .before .before .before .before .before .before .before .before .before .before .if1 .left) _ _ _ (c .before .before .before .before .before .before .before .before .lay-colour .ensures)
 
 returns-2 : tie.Need-returns-2
 returns-2 c =
-    step-told _ _ _ _ _ _ _ _ _ _ _ _ (c .before .before .before .before .before .before .before .before .before .before .before .before .before .before .before .before .before .before .before .before .before .before .before .before .before .before .before .before .before .before .before .pre .0) (c .before .before .before .before .before .before .before .before .before .before .before .before .before .before .before .before .before .before .before .before .before .before .before .before .before .before .before .before .before .before .before .pre .1) (c .before .before .before .before .before .before .before .before .before .before .before .before .before .before .before .before .before .if1 .left) _ _ _ (c .before .before .before .before .before .before .before .before .before .before .before .before .before .before .lay-colour .ensures) _ _ _ (c .before .before .before .before .step-event .ensures .0) (c .before .before .before .before .step-event .ensures .1 .0) (c .before .before .before .before .step-event .ensures .1 .1)
+    step-told _ _ _ _ _ _ _ _ _ _ _ _ (c .before .before .before .before .before .before .before .before .before .before .before .before .before .before .before .before .before .before .before .before .before .before .before .before .before .before .before .before .before .before .pre .0) (c .before .before .before .before .before .before .before .before .before .before .before .before .before .before .before .before .before .before .before .before .before .before .before .before .before .before .before .before .before .before .pre .1) (c .before .before .before .before .before .before .before .before .before .before .before .before .before .before .before .before .if1 .left) _ _ _ (c .before .before .before .before .before .before .before .before .before .before .before .before .before .lay-colour .ensures) _ _ _ (c .before .before .before .before .step-coloured .ensures .0) (c .before .before .before .before .step-coloured .ensures .1 .0) (c .before .before .before .before .step-coloured .ensures .1 .1)
 
 pub step-unfolded-spec : {M : Type 1} → statement M
 step-unfolded-spec =
@@ -41,9 +37,7 @@ step-unfolded-spec =
     shared-slice-read-if1
     returns
     (λ c κs. search needs)
-    (λ c. search needs)
-    shared-slice-read-step-event
-    step-event-requires
+    step-coloured-requires
     (λ c. search needs)
     (λ c. search needs)
     (λ c. search needs)
