@@ -4,22 +4,23 @@ use mathlib.Core.Path.{_≡_, refl, sym, ap, _∙_}
 use mathlib.Core.List.{List}
 use lib.Dec.{T}
 use lib.ListN.{length, take}
-use Rattle.model.specs.Net.{Net, begin}
+use Rattle.model.specs.Net.{Net, begin, unknown, lacks, meets}
 use Rattle.model.specs.Runs.{runs, end, opening, replay}
 use Rattle.model.specs.Unfolding.{basic}
 use mathlib.Core.Option.{none}
 use Rattle.model.specs.Across as across
-use Rattle.model.specs.Across.{ofTable, numberOf, placeOf, Answer, run, refusal, unless, stuck, mostSteps, mostUnfolded, tooLong, unfoldingRefused, earliest, repeated, again, lifted, lifting, lift}
+use Rattle.model.specs.Across.{ofTable, ofUnfolding, stopped, other, numberOf, placeOf, byOf, Answer, run, refusal, unless, stuck, mostSteps, mostUnfolded, tooLong, unfoldingRefused, earliest, repeated, again, lifted, lifting, lift}
 use Rattle.model.proofs.Answers.{unless-run, not-stuck}
 use Rattle.model.proofs.Limits.{unfolds-exactly, within-exactly}
 use Rattle.model.proofs.Demands.{lift-project, lift-lifts, lift-length, lift-most}
 use Rattle.refusal.specs.declared.Refusal.{Refusal}
 use Rattle.refusal.specs.declared.Judged.{Judged}
 use Rattle.refusal.specs.declared.Judged.the-variants.{Fine, Refused}
-use Rattle.refusal.specs.Answer.{refusedAt, andThen}
+use Rattle.refusal.specs.Answer.{conditionOf, andThen}
 use Rattle.refusal.proofs.Chain.{fitting-room}
 use Rattle.table.specs.Walk.{judgeOf}
 use Rattle.table.specs.Decoded.{netOf}
+use Rattle.table.specs.Links.{refusalBy, refusing}
 use Rattle.table.proofs.Sound.{accepted-sound}
 use Rattle.runs.specs.Runs.{runOf}
 use Rattle.across.specs.Calls.{fitted, ended}
@@ -80,9 +81,19 @@ module _ (s r : List ℕ) (n : ℕ) (j : judgeOf s ≡ Fine n) where
         (end (basic (netOf s)) (begin (basic (netOf s))) (liftedRun s r)) (is-run (netOf s) r w a) refl
         ∙ ap (linesOf (netOf s) r) numbers
 
-  reach-refused : {x : across.Refusal} → lift (netOf s) r ≡ refusal x → reachOf s r ≡ refusedAt (numberOf x) (placeOf x)
+  reach-refused : {x : across.Refusal} → lift (netOf s) r ≡ refusal x → reachOf s r ≡ refusing x
   unfolding reachOf liftOf fitted
   reach-refused a = rw (j, a)
+
+-- An answer tells the condition that the model's refusal does, in either numbering.
+condition-told : (x : across.Refusal) → conditionOf (refusalBy x) ≡ byOf x
+condition-told (stopped ofTable unknown k) = refl
+condition-told (stopped ofTable (lacks b) k) = refl
+condition-told (stopped ofTable (meets b) k) = refl
+condition-told (stopped ofUnfolding unknown k) = refl
+condition-told (stopped ofUnfolding (lacks b) k) = refl
+condition-told (stopped ofUnfolding (meets b) k) = refl
+condition-told (other number k) = refl
 
 -- The text from the start on, as opening leaves what it is written from.
 abbrev pub textOfFiles : List ℕ → List ℕ → List ℕ
@@ -93,7 +104,7 @@ module _ (s r : List ℕ) where
       → judgedLines (andThen (reachOf s (runOf r)) (λ _. Fine count)) (textOfFiles s r) ≡ liftedLines (netOf s) (runOf r) a
   unfolding judgedLines liftedLines
   by-lift n count j (run w) e = rw (reach-fine s (runOf r) n j w e) (text-lines s (runOf r) n j w e)
-  by-lift n count j (refusal x) e = rw (reach-refused s (runOf r) n j e)
+  by-lift n count j (refusal x) e = rw (reach-refused s (runOf r) n j e) (ap (refusedLine (numberOf x) (placeOf x)) (condition-told x))
 
   -- What is opened, and the text from the start on, are the listing (01, Nets to test with: Listing).
   pub whole-listing : judgedLines (openOf s r) (textOfFiles s r) ≡ listingOf s r
@@ -111,7 +122,7 @@ module _ (s r : List ℕ) where
   listing-written count e = ap (λ (x : Judged). judgedLines x (textOfFiles s r)) (sym e) ∙ whole-listing
 
   -- Where it is refused, the line of the refusal is.
-  pub listing-refused : (x : Refusal) → openOf s r ≡ Refused x → refusedLine (x .number) (x .place) ≡ listingOf s r
+  pub listing-refused : (x : Refusal) → openOf s r ≡ Refused x → refusedLine (x .number) (x .place) (conditionOf (x .by)) ≡ listingOf s r
   unfolding judgedLines
   listing-refused x e = ap (λ (x : Judged). judgedLines x (textOfFiles s r)) (sym e) ∙ whole-listing
 
@@ -126,5 +137,5 @@ module _ (s r : List ℕ) (o : Opened) (steps lifted offsets marking end : List 
       rw (h .run, h .lifts, h .ended, h .begun) (listing-written s r count (sym (opens .told) ∙ e))
 
   -- A refusal's line is the listing.
-  pub opened-refused : (x : Refusal) → o .answer ≡ Refused x → refusedLine (x .number) (x .place) ≡ listingOf s r
+  pub opened-refused : (x : Refusal) → o .answer ≡ Refused x → refusedLine (x .number) (x .place) (conditionOf (x .by)) ≡ listingOf s r
   opened-refused x e = listing-refused s r x (sym (opens .told) ∙ e)

@@ -4,12 +4,13 @@ use native.Mathlib.Decide.{decLe}
 use native.Mathlib.Omega.{arith}
 use mathlib.Core.Path.{_≡_, refl}
 use mathlib.Core.Bool.{Bool, true, false}
+use mathlib.Core.Option.{Option}
 use mathlib.Core.List.{List, _++_}
 use lib.ListN.{length, length-append}
 use Rattle.model.specs.Net.{Marking}
 use Rattle.model.specs.Lent.{marking}
 use Rattle.model.specs.Across.{mostUnfolded}
-use Rattle.listing.specs.Text.{commas, listed, holding, endWords, startLine, stepLine, refusedLine}
+use Rattle.listing.specs.Text.{commas, listed, holding, endWords, startLine, stepLine, byWords, refusedLine}
 use Rattle.listing.specs.Calls.{heldIn, firstIn, nextOf, firstPiece, morePiece}
 use Rattle.spelling.proofs.Decimal.{five, twenty}
 use Rattle.listing.proofs.Held.{holding-both, commas-both, one-holds, one-fails}
@@ -67,10 +68,11 @@ module _ (l : List ℕ) (few : length l ≤ mostUnfolded) where
           rw e (omega (arith, none-short (marking l) from))
       go (no h) = omega (arith, more-short (marking l) (nextOf l from - from) from (omega arith))
 
--- The line of a refusal.
-pub refused-fits : (number place : ℕ) → number < 100000000000000000000 → place < 100000000000000000000 → length (refusedLine number place) ≤ mostBytes
+-- The line of a refusal, with the words for what stopped a step.
+pub refused-fits : (number place : ℕ) (by : Option ℕ) → number < 100000000000000000000 → place < 100000000000000000000 → length (byWords by) ≤ 24
+    → length (refusedLine number place by) ≤ mostBytes
 unfolding refusedLine
-refused-fits number place hn hp = simp length-append (omega (arith, twenty number hn, twenty place hp))
+refused-fits number place by hn hp hb = simp length-append (omega (arith, twenty number hn, twenty place hp))
 
 -- The line of a marking of at most 256 conditions.
 module _ (l : List ℕ) (few : length l ≤ 256) where

@@ -195,5 +195,9 @@ pub fn write_refused(answer: Judged, out: &mut [u8]) -> usize
 {
     let number = refusal::number_of(answer) as usize;
     let by = refusal::by_of(answer);
-    put(Piece::Refused(number, refusal::place_of(answer), by), b"", out)
+    put(
+        Piece::Refused(number, refusal::place_of(answer), by),
+        b"",
+        out,
+    )
 }

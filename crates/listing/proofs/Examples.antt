@@ -18,7 +18,7 @@ use Rattle.table.specs.Decoded.{netOf}
 use Rattle.runs.specs.Runs.{stepsIn, readAnswer}
 use Rattle.listing.specs.Calls.{filesOf}
 use Rattle.spelling.specs.Decimal.{decimal}
-use Rattle.listing.specs.Text.{commas, listed, holding, startLine, stepLine, endLine}
+use Rattle.listing.specs.Text.{commas, listed, holding, startLine, stepLine, endLine, byWords, refusedLine}
 use Rattle.listing.specs.Whole.{stepLines, linesOf, liftedLines, judgedLines, listingOf}
 
 -- What is written for net A and the run 0, 1, 2, 1 (01, Nets to test with: Listing).
@@ -29,6 +29,14 @@ listing = 115 ∷ 116 ∷ 97 ∷ 114 ∷ 116 ∷ 32 ∷ 48 ∷ 10 ∷ 48 ∷ 32 
 pub document-example : liftedLines (netA (0 ∷ [])) (0 ∷ 1 ∷ 2 ∷ 1 ∷ []) (lift (netA (0 ∷ [])) (0 ∷ 1 ∷ 2 ∷ 1 ∷ [])) ≡ listing
 unfolding liftedLines linesOf stepLines startLine stepLine endLine listed commas decimal holding begin fire end basic lift net one two three four netA
 document-example = refl
+
+-- A run that is stopped: 0, 1, 1 at its step 2, where condition 1 does not hold (02, No. 2).
+abbrev stopped : List ℕ
+stopped = 114 ∷ 101 ∷ 102 ∷ 117 ∷ 115 ∷ 101 ∷ 100 ∷ 32 ∷ 49 ∷ 49 ∷ 32 ∷ 97 ∷ 116 ∷ 32 ∷ 50 ∷ 32 ∷ 98 ∷ 121 ∷ 32 ∷ 49 ∷ 10 ∷ []
+
+pub stopped-example : liftedLines (netA (0 ∷ [])) (0 ∷ 1 ∷ 1 ∷ []) (lift (netA (0 ∷ [])) (0 ∷ 1 ∷ 1 ∷ [])) ≡ stopped
+unfolding liftedLines refusedLine byWords decimal begin fire basic lift net one two three four netA
+stopped-example = refl
 
 -- ---- the bytes of the two files
 

@@ -1,4 +1,5 @@
 pub mod Held
 pub mod Lines
+pub mod Conditions
 pub mod Answers
 pub mod Examples

@@ -152,7 +152,7 @@ fn put_end(out: &mut [u8], state: &[u8]) -> usize
 
 // The words for a condition that stopped a step, by its number.
 fn put_condition(out: &mut [u8], at: usize, b: usize) -> usize
-    requires { ⌜ at + 26 ≤ farthest ⌝ }
+    requires { ⌜ at + 24 ≤ farthest ⌝ }
     ensures { λ r. ⌜ Put (now (out .entry)) at (byWords (some b)) r (now (out .exit)) ⌝ }
 {
     let from = spelling::put_text(out, at, b" by ");
@@ -161,7 +161,7 @@ fn put_condition(out: &mut [u8], at: usize, b: usize) -> usize
 
 // The words for what stopped a step, none where nothing did.
 fn put_by(out: &mut [u8], at: usize, by: By) -> usize
-    requires { ⌜ at + 26 ≤ farthest ⌝ }
+    requires { ⌜ at + 24 ≤ farthest ⌝ }
     ensures { λ r. ⌜ Put (now (out .entry)) at (byWords (conditionOf by)) r (now (out .exit)) ⌝ }
 {
     match by {

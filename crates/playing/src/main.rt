@@ -1,9 +1,25 @@
 // Plays nets A, B and E and writes each answer and what it left in lent memory; run by the gate.
 use libc::STDOUT_FILENO;
+use refusal::By;
 use refusal::Judged;
 use refusal::TableEvent;
 
-// One answer: the elements written, or the refusal with its place.
+// The number of a condition that stopped a step.
+fn condition(b: u16) {
+    io::write_all(STDOUT_FILENO, b" by ");
+    io::print_decimal(STDOUT_FILENO, b as u64);
+}
+
+// What stopped a step, if a condition did.
+fn cause(by: By) {
+    match by {
+        By::Nothing => {}
+        By::Table(b) => condition(b.0),
+        By::Unfolded(b) => condition(b.0),
+    }
+}
+
+// One answer: the elements written, or the refusal with its place and the condition.
 fn tell(answer: Judged) {
     match answer {
         Judged::Fine(count) => {
@@ -15,6 +31,8 @@ fn tell(answer: Judged) {
             io::print_decimal(STDOUT_FILENO, refusal.number as u64);
             io::write_all(STDOUT_FILENO, b" at ");
             io::print_decimal(STDOUT_FILENO, refusal.place as u64);
+            let by = refusal.by;
+            cause(by);
         }
     }
 }
