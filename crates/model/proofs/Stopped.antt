@@ -1,20 +1,19 @@
 -- Which condition stopped it: what is told of a firing or a run that is stopped is exactly the lowest condition that stops it.
-use mathlib.Core.Path.{_≡_, refl, sym, _∙_, ap, subst}
+use mathlib.Core.Path.{_≡_, refl, sym, subst}
 use mathlib.Core.Bool.{Bool, true, false, not, _&&_, _||_}
 use mathlib.Core.Logic.{_↔_}
 use mathlib.Core.Option.{Option, none, some}
 use mathlib.Core.List.{List}
 use Prim.Native.Nat.{ℕ, _<_}
 use lib.Dec.{T, ltb, ltb→lt, lt→ltb}
-use native.Mathlib.Omega.{arith}
 use Rattle.lists.specs.Lists.{mem, ascending, failing, nothing}
-use Rattle.lists.proofs.Bools.{T-of, is-true, is-false, not-true, not-out, not-in, same-eq, and-left, and-right, and-both, every, every-at}
+use Rattle.lists.proofs.Bools.{T-of, is-true, is-false, not-true, not-out, not-in, and-left, and-right, and-both}
 use Rattle.lists.proofs.Tests.{failing-at, failing-of}
-use Rattle.lists.proofs.Lowest.{Lowest, failing-lowest, lowest-failing}
+use Rattle.lists.proofs.Lowest.{failing-lowest, lowest-failing}
 use Rattle.model.specs.Net.{Net, Sound, Marking, lacking, free, contact, Stop, unknown, lacks, meets, firstStop, stopping}
-use Rattle.model.specs.Runs.{end, State, Played, refused, replay}
+use Rattle.model.specs.Runs.{end, State, refused, replay}
 use Rattle.model.specs.Unfolding.{basic}
-use Rattle.model.specs.Demands.{Stops, Least, lacked, touched, StoppedBy, StoppedAt}
+use Rattle.model.specs.Demands.{Least, lacked, touched, StoppedBy, StoppedAt}
 use Rattle.model.proofs.Replay.{replay-stops, stops-replay}
 use Rattle.model.proofs.Sets.{basic-sound}
 
@@ -33,10 +32,10 @@ module _ (f p : ℕ → Bool) (l : List ℕ) (same : (c : ℕ) → p c ≡ (mem 
   least-failing : T (ascending l) → (b : ℕ) → (failing f l ≡ some b) ↔ Least p b
   least-failing a b = (
     λ q. let w = failing-lowest f l a b q in
-    record {
-      passes = fails-passes b (w .inside) (w .fails);
-      least = λ c t. w .least c (passes-in c t) (passes-fails c t);
-    },
+        record {
+          passes = fails-passes b (w .inside) (w .fails);
+          least = λ c t. w .least c (passes-in c t) (passes-fails c t);
+        },
     λ w. lowest-failing f l a b (record {
       inside = passes-in b (w .passes);
       fails = passes-fails b (w .passes);
@@ -121,15 +120,15 @@ pub refused-exactly : (n : Net) → Sound n → (k : ℕ) (s : State) (r : List 
     → (replay n k s r ≡ refused v i) ↔ StoppedAt n k (s .marking) r v i
 refused-exactly n z k s r v i = (
   λ q. let p = replay-stops n k s r v i q in
-  record {
-    before = p .before;
-    event = p .event;
-    rest = p .rest;
-    splits = p .splits;
-    place = p .place;
-    plays = p .plays;
-    by = stopping-exactly n (end n (s .marking) (p .before)) (p .event) z v .0 (p .stops);
-  },
+      record {
+        before = p .before;
+        event = p .event;
+        rest = p .rest;
+        splits = p .splits;
+        place = p .place;
+        plays = p .plays;
+        by = stopping-exactly n (end n (s .marking) (p .before)) (p .event) z v .0 (p .stops);
+      },
   λ p. stops-replay n k s r v i (record {
     before = p .before;
     event = p .event;

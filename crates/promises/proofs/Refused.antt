@@ -1,6 +1,6 @@
 -- The numbers that the answers of the calls may be refused with, link by link of their chains.
 use mathlib.Core.Path.{_≡_}
-use mathlib.Core.Bool.{Bool, true, false, _&&_, cond}
+use mathlib.Core.Bool.{Bool, true, false, cond}
 use mathlib.Core.Option.{Option, none, some}
 use mathlib.Core.List.{List, _∷_}
 use Prim.Native.Nat.{ℕ, zero, suc, _+_, _*_, _/_, _%_}
@@ -14,7 +14,7 @@ use Rattle.model.specs.Runs.{Played, ends, refused, replay, opening, State}
 use Rattle.model.specs.Unfolding.{basic}
 use Rattle.model.specs.Exchange.{apartStep}
 use Rattle.model.specs.Lent.{marking}
-use Rattle.model.specs.Across.{Whose, stopped, Answer, run, refusal, other, numberOf, unless, stuck, mostSteps, mostUnfolded, tooLong, within, lowestIdle, idleOrOver, unfoldingRefused, earliest, repeated, again, lifting, lift, projecting, project, noStep, notApart, exchanging, exchange}
+use Rattle.model.specs.Across.{Whose, stopped, Answer, run, refusal, other, unless, stuck, mostSteps, mostUnfolded, tooLong, within, lowestIdle, idleOrOver, unfoldingRefused, earliest, repeated, again, lifting, lift, projecting, project, noStep, notApart, exchanging, exchange}
 use Rattle.model.specs.Across as model
 use Rattle.refusal.specs.declared.Judged.{Judged}
 use Rattle.refusal.specs.declared.Judged.the-variants.{Fine, Refused}

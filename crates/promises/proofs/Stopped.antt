@@ -1,6 +1,6 @@
 -- Which condition a refused call names: exactly the lowest that stops the step, for every call that fires or runs.
 use mathlib.Core.Path.{_≡_, refl, sym, _∙_, ap, subst}
-use mathlib.Core.Bool.{Bool, true, false, not, _&&_}
+use mathlib.Core.Bool.{Bool, true, false, not}
 use mathlib.Core.Logic.{_⊎_, inl, inr, _↔_}
 use mathlib.Core.Option.{Option, none, some}
 use mathlib.Core.List.{List, [], _∷_}
@@ -15,7 +15,7 @@ use Rattle.model.specs.Net.{Net, Sound, Marking, begin, Stop, unknown, lacks, m
 use Rattle.model.specs.Runs.{State, opening, Played, ends, refused, replay}
 use Rattle.model.specs.Unfolding.{basic}
 use Rattle.model.specs.Exchange.{apartStep, exchanged}
-use Rattle.model.specs.Across.{Whose, Refusal, stopped, other, Answer, run, refusal, unless, stuck, tooLong, unfoldingRefused, earliest, lifted, repeated, again, lifting, lift, readBack, projecting, project, noStep, notApart, exchanging, exchange}
+use Rattle.model.specs.Across.{Whose, Refusal, stopped, Answer, run, refusal, unless, stuck, tooLong, unfoldingRefused, earliest, lifted, repeated, again, lifting, lift, readBack, projecting, project, noStep, notApart, exchanging, exchange}
 use Rattle.model.specs.Across as model
 use Rattle.model.specs.Lent.{marking}
 use Rattle.model.specs.Demands.{StoppedBy, StoppedAt}
@@ -25,7 +25,7 @@ use Rattle.refusal.specs.declared.By.the-variants.{Nothing}
 use Rattle.refusal.specs.declared.Refusal as declared
 use Rattle.refusal.specs.declared.Judged.{Judged}
 use Rattle.refusal.specs.declared.Judged.the-variants.{Fine, Refused}
-use Rattle.refusal.specs.Answer.{numberOf, placeOf, byOf, conditionOf, refusedAt, need, andThen, fitting}
+use Rattle.refusal.specs.Answer.{numberOf, placeOf, byOf, conditionOf, need, andThen, fitting}
 use Rattle.refusal.proofs.Chain.{never-both, then-fine}
 use Rattle.table.specs.Walk.{judgeOf}
 use Rattle.table.specs.Decoded.{netOf}
@@ -96,7 +96,7 @@ named-after : (p : Judged → Judged) → Judging p → (a : Judged) (x : declar
 named-after p (inl f) a x t = (λ h. (f (Fine 0), sym (f a) ∙ h), λ h. f a ∙ h .1)
 named-after p (inr y) a x t = (
   λ h. let same : y .0 .number ≡ x .number = ap numberOf (sym (y .2 a) ∙ h) in
-  absurd (y .1 (subst (λ (k : ℕ). T (mem k byCondition)) (sym same) t)),
+      absurd (y .1 (subst (λ (k : ℕ). T (mem k byCondition)) (sym same) t)),
   λ h. never-both (sym (h .0) ∙ y .2 (Fine 0)),
 )
 
@@ -275,7 +275,7 @@ exchange-names s r k =
     let told : swapping (exchange n r k) ≡ refusedOr (tooLong r) (refusedOr steps rest)
     = by-link (tooLong r) _ ∙ ap (refusedOr (tooLong r)) (by-link steps _ ∙ ap (refusedOr steps) (by-link (noStep r k) _ ∙ ap (refusedOr (noStep r k)) (by-link (notApart n r k) (run (exchanged k r))))) in
     let after = unnamed (10 ∷ 17 ∷ []) tt rest (listed-or (10 ∷ 17 ∷ []) (noStep r k) _ (if-listed (10 ∷ 17 ∷ []) (ltb (suc k) (length r)) 10 k tt)
-        (listed-or (10 ∷ 17 ∷ []) (notApart n r k) (Fine 2) (if-listed (10 ∷ 17 ∷ []) (apartStep n (begin n) r k) 17 k tt) tt)) in
+    (listed-or (10 ∷ 17 ∷ []) (notApart n r k) (Fine 2) (if-listed (10 ∷ 17 ∷ []) (apartStep n (begin n) r k) 17 k tt) tt)) in
     subst (λ (z : Judged). RunNames (beforeRun s r) model.ofTable n (begin n) r (andThen (judgeOf s) (λ _. z))) (sym told)
     (run-names (beforeRun s r) (judging-run s r) model.ofTable n (judged-sound s _) (opening n) r rest after)
   where
