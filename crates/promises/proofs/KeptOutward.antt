@@ -1,6 +1,6 @@
--- Demand 1 for the calls for C: each tells number 0 or one of its list, and where it tells another than 0 everything that was lent, which
--- stands here as the memory at exit, is as it was at entry.
-use mathlib.Core.Path.{_≡_, refl, ap, _∙_}
+-- Demand 1 for the calls for C: each tells number 0 or one of its list, a condition only with 11 and 12, and where it tells another number
+-- than 0 everything that was lent, which stands here as the memory at exit, is as it was at entry.
+use mathlib.Core.Path.{_≡_, refl, sym, ap, subst, _∙_}
 use mathlib.Core.Bool.{Bool, true, false}
 use mathlib.Core.Option.{Option, none, some}
 use mathlib.Core.List.{List, [], _∷_}
@@ -8,15 +8,17 @@ use Prim.Native.Nat.{ℕ}
 use lib.Dec.{T, eqb, eqb-refl}
 use lib.ListN.{length}
 use denote.Ref.{now}
-use Rattle.lists.specs.Lists.{mem}
-use Rattle.lists.proofs.Bools.{and-both, or-left, or-right}
+use Rattle.lists.specs.Lists.{mem, same}
+use Rattle.lists.proofs.Bools.{and-right, and-both, or-left, or-right}
 use Rattle.model.specs.Unfolding.{UnfoldedCondition, ordinary, copy, basic}
 use Rattle.model.specs.Across as model
 use Rattle.model.specs.Across.{unfoldingRefused}
+use Rattle.refusal.specs.declared.By.{By}
+use Rattle.refusal.specs.declared.By.the-variants.{Nothing, Table, Unfolded}
 use Rattle.refusal.specs.declared.Refusal.{Refusal}
 use Rattle.refusal.specs.declared.Judged.{Judged}
 use Rattle.refusal.specs.declared.Judged.the-variants.{Fine, Refused}
-use Rattle.refusal.specs.Answer.{numberOf, andThen, written}
+use Rattle.refusal.specs.Answer.{numberOf, byOf, andThen, written}
 use Rattle.refusal.proofs.Chain.{never-both}
 use Rattle.table.specs.Walk.{judgeOf}
 use Rattle.table.specs.Decoded.{netOf}
@@ -43,10 +45,10 @@ use Rattle.lift.specs.Calls.{liftOf, liftedOf}
 use Rattle.project.specs.Calls.{projectOf, projectedOf}
 use Rattle.ends.specs.Calls.{liftEndOf, liftEndedOf, unfoldedReplayOf, unfoldedReplayedOf}
 use Rattle.outward.specs.declared.Answer.{Answer}
-use Rattle.outward.specs.Told.{answerOf, valueOr, given}
+use Rattle.outward.specs.Told.{byNumber, answerOf, valueOr, given}
 use Rattle.outward.specs.Words.{colourFor, markersOf, markersInto, conditionFor}
 use Rattle.outward.specs.Origins.{originAnswer, conditionOr, copyOr, markerOr, userOr}
-use Rattle.promises.specs.Refused.{ofTable, ofList, ofTableStart, ofFiring, ofReplay, ofExchange, ofUnfolding, ofNumbering, ofListing, ofStart, ofUnfoldedFiring, ofLift, ofProject, ofReading, ofWriting, named, listed, Refusing, Telling}
+use Rattle.promises.specs.Refused.{ofTable, ofList, ofTableStart, ofFiring, ofReplay, ofExchange, ofUnfolding, ofNumbering, ofListing, ofStart, ofUnfoldedFiring, ofLift, ofProject, ofReading, ofWriting, byCondition, naming, named, listed, Refusing, Telling}
 use Rattle.promises.proofs.Refused.{listed-need, listed-then, listed-cond, listed-fitting, zero-listed, judge-listed, judged-listed, firing-listed, replay-listed, exchange-listed, preconditions-listed, postconditions-listed, start-listed, unfolding-of-listed, listing-listed, element-listed, unfolded-start-listed, unfolded-fire-listed, lift-listed, lift-end-listed, project-listed, unfolded-replay-listed, read-listed, write-listed}
 use Rattle.promises.proofs.Told.{event-answer}
 use Rattle.promises.proofs.Kept.{written-refused}
@@ -88,10 +90,27 @@ told-listed : (numbers : List ℕ) (a : Judged) (r : Answer) → r ≡ answerOf 
 unfolding answerOf
 told-listed numbers a r e t = zero-listed numbers a (ap (λ (z : Answer). z .number) e) t
 
+-- the condition is 0 where no condition stopped a step
+told-by : (numbers : List ℕ) (a : Judged) (r : Answer) → r ≡ answerOf a → T (listed numbers a) → (T (mem (r .number) byCondition) → ⊥) → r .by ≡ 0
+unfolding answerOf
+told-by numbers a r e t f =
+    ap (λ (z : Answer). z .by) e ∙ go a t (λ m. f (subst (λ (k : ℕ). T (mem k byCondition)) (sym (ap (λ (z : Answer). z .number) e)) m))
+  where
+    none-named : (b : By) (m : Bool) → T (same m (naming b)) → (T m → ⊥) → byNumber b ≡ 0
+    none-named Nothing m t f = refl
+    none-named (Table b) true t f = absurd (f tt)
+    none-named (Table b) false t f = absurd t
+    none-named (Unfolded b) true t f = absurd (f tt)
+    none-named (Unfolded b) false t f = absurd t
+
+    go : (a : Judged) → T (listed numbers a) → (T (mem (numberOf a) byCondition) → ⊥) → byNumber (byOf a) ≡ 0
+    go (Fine v) t f = refl
+    go (Refused x) t f = none-named (x .by) (mem (x .number) byCondition) (and-right (mem (x .number) numbers) (named x) t) f
+
 told-refused : (numbers : List ℕ) (a : Judged) (r : Answer) {Kept : Type 0} → r ≡ answerOf a → T (listed numbers a) → ((x : Refusal) → a ≡ Refused x → Kept) → Telling numbers r Kept
 unfolding answerOf
-told-refused numbers (Fine v) r e t k = record { number = told-listed numbers (Fine v) r e t; kept = λ f. absurd (f (ap (λ (z : Answer). z .number) e)) }
-told-refused numbers (Refused x) r e t k = record { number = told-listed numbers (Refused x) r e t; kept = λ f. k x refl }
+told-refused numbers (Fine v) r e t k = record { number = told-listed numbers (Fine v) r e t; by = told-by numbers (Fine v) r e t; kept = λ f. absurd (f (ap (λ (z : Answer). z .number) e)) }
+told-refused numbers (Refused x) r e t k = record { number = told-listed numbers (Refused x) r e t; by = told-by numbers (Refused x) r e t; kept = λ f. k x refl }
 
 -- ---- what is lent, where the answer is a refusal
 

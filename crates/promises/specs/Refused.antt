@@ -128,7 +128,9 @@ pub record Refusing (numbers : List ℕ) (answer : Judged) (old new : List ℕ) 
   pub number : T (listed numbers answer)
   pub kept : (refusal : Refusal) → answer ≡ Refused refusal → new ≡ old
 
--- A call for C tells 0 or one of these numbers, and where it is not 0 what C lent stays as it was (01, Refusal numbers: demand 1).
+-- A call for C tells 0 or one of these numbers, a condition other than 0 only with 11 and 12, and where the number is not 0 what C lent
+-- stays as it was (01, Refusal numbers: demand 1; 02, No. 2).
 pub record Telling (numbers : List ℕ) (answer : Answer) (Kept : Type 0) : Type 0 where
   pub number : T (mem (answer .number) (0 ∷ numbers))
+  pub by : (T (mem (answer .number) byCondition) → ⊥) → answer .by ≡ 0
   pub kept : (answer .number ≡ 0 → ⊥) → Kept
