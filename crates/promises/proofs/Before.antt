@@ -13,7 +13,7 @@ use Rattle.model.specs.Net.{Net, begin, fire, Stop, unknown, lacks, meets, stop
 use Rattle.model.specs.Runs.{Played, ends, refused, end, State, opening, replay}
 use Rattle.model.specs.Unfolding.{basic}
 use Rattle.model.specs.Exchange.{exchanged}
-use Rattle.model.specs.Across.{Whose, Answer, run, refusal, stuck, tooLong, unfoldingRefused, lift, project, exchange}
+use Rattle.model.specs.Across.{Whose, stopped, Answer, run, refusal, unless, stuck, tooLong, unfoldingRefused, earliest, lifted, repeated, again, lifting, lift, readBack, projecting, project, noStep, notApart, exchanging, exchange}
 use Rattle.model.specs.Across as model
 use Rattle.model.specs.Lent.{bytes, marking}
 use Rattle.refusal.specs.declared.Judged.{Judged}
@@ -21,7 +21,7 @@ use Rattle.refusal.specs.declared.Judged.the-variants.{Fine, Refused}
 use Rattle.refusal.specs.Answer.{need, andThen, fitting, written}
 use Rattle.table.specs.Walk.{judgeOf}
 use Rattle.table.specs.Decoded.{netOf}
-use Rattle.table.specs.Links.{refusalBy, refusedOr}
+use Rattle.table.specs.Links.{refusalBy, refusing, refusedOr}
 use Rattle.game.specs.Lent.{lent, firstAbove}
 use Rattle.game.specs.Calls.{onMarking, leaves, firingStopped, firingOf, concessionOf, fireOf, firedOf}
 use Rattle.played.specs.Begun.{begunAt}
@@ -34,7 +34,7 @@ use Rattle.lift.specs.Calls.{liftOf, liftedOf}
 use Rattle.project.specs.Calls.{projectOf, projectedOf}
 use Rattle.ends.specs.Calls.{liftEndOf, liftEndedOf, unfoldedReplayOf, unfoldedReplayedOf}
 use Rattle.promises.specs.Refused.{ofTable, byCondition, named, listed}
-use Rattle.promises.specs.Before.{Old, fine, turned, bare, unplaced, oldThen, oldNeed, oldOr, oldStop, oldStuck, oldFitting, oldLent, oldFitted, oldEnded, oldSwapping, oldWritten, oldLeaves, oldFiring, oldUnfoldedFire, oldPlayed, oldReplay, oldReplayFrom, oldExchange, oldLift, oldProject, oldLiftEnd, oldUnfoldedReplay}
+use Rattle.promises.specs.Before.{Old, fine, turned, bare, unplaced, oldThen, oldNeed, oldOr, oldStop, oldStuck, oldFitting, oldLent, oldWritten, oldLeaves, oldFiring, oldUnfoldedFire, oldPlayed, oldReplay, oldReplayFrom, oldExchange, oldLifting, oldLift, oldLiftEnd, oldProjecting, oldProject, oldUnfoldedReplay}
 use Rattle.promises.proofs.Refused.{listedIf, judge-listed, unfolding-listed}
 
 -- ---- the links, with the condition left out
@@ -66,25 +66,39 @@ bare-lent c m rest =
     bare-need (eqb (length m) c) 18 c (need (leb (length m) (firstAbove m)) 18 (firstAbove m) rest)
     ∙ ap (oldNeed (eqb (length m) c) 18 c) (bare-need (leb (length m) (firstAbove m)) 18 (firstAbove m) rest)
 
-bare-fitted : (a : Answer) (room : ℕ) → bare (fitted a room) ≡ oldFitted a room
-unfolding fitted
-bare-fitted (run w) room = bare-fitting (length w) room
-bare-fitted (refusal x) room = refl
-
-bare-ended : (a : Answer) (c room : ℕ) → bare (ended a c room) ≡ oldEnded a c room
-unfolding ended
-bare-ended (run w) c room = bare-fitting c room
-bare-ended (refusal x) c room = refl
-
-bare-swapping : (a : Answer) → bare (swapping a) ≡ oldSwapping a
-bare-swapping (run w) = refl
-bare-swapping (refusal x) = refl
-
 bare-played : (n : Net) (s : State) (r : List ℕ) (room : ℕ) → bare (playedOf n s r room) ≡ oldPlayed n s r room
 unfolding playedOf
 bare-played n s r room =
     bare-or (tooLong r) (refusedOr (stuck model.ofTable (replay n 0 s r)) (fitting (n .conditions) room))
     ∙ ap (oldOr (tooLong r)) (bare-stuck model.ofTable (replay n 0 s r) (fitting (n .conditions) room) ∙ ap (oldStuck (replay n 0 s r)) (bare-fitting (n .conditions) room))
+
+-- a model's answer, told by a call, link by link
+module _ (f : Answer → Judged) (h : (x : model.Refusal) → f (refusal x) ≡ refusing x) where
+  bare-unless : (o : Option model.Refusal) (a : Answer) (g : Old) → bare (f a) ≡ g → bare (f (unless o a)) ≡ oldOr o g
+  bare-unless none a g e = e
+  bare-unless (some x) a g e = ap bare (h x)
+
+  bare-steps : (w : Whose) (p : Played) (a : Answer) (g : Old) → bare (f a) ≡ g → bare (f (unless (stuck w p) a)) ≡ oldStuck p g
+  bare-steps w (ends s) a g e = e
+  bare-steps w (refused v k) a g e = ap bare (h (stopped w v k))
+
+  bare-lift : (s r : List ℕ) (g : Old) → bare (f (run (lifted (netOf s) (earliest (netOf s)) (opening (netOf s)) r))) ≡ g
+      → bare (andThen (judgeOf s) (λ _. f (lift (netOf s) r))) ≡ oldLifting s r g
+  unfolding lift lifting
+  bare-lift s r g e =
+      let n = netOf s in
+      bare-then (judgeOf s) _ _ (λ _.
+      bare-unless (tooLong r) _ _ (bare-unless (unfoldingRefused n) _ _
+      (bare-steps model.ofTable (replay n 0 (opening n) r) _ _
+      (bare-unless (again (repeated n (earliest n) 0 (opening n) r)) _ _ e))))
+
+  bare-project : (s w : List ℕ) (g : Old) → bare (f (run (readBack (netOf s) w))) ≡ g
+      → bare (andThen (judgeOf s) (λ _. f (project (netOf s) w))) ≡ oldProjecting s w g
+  unfolding project projecting
+  bare-project s w g e =
+      let u = basic (netOf s) in
+      bare-then (judgeOf s) _ _ (λ _.
+      bare-unless (tooLong w) _ _ (bare-unless (unfoldingRefused (netOf s)) _ _ (bare-steps model.ofUnfolding (replay u 0 (opening u) w) _ _ e)))
 
 -- ---- the answers of runs
 
@@ -100,24 +114,29 @@ replay-from-before s m r room =
     ∙ ap (oldLent (netOf s .conditions) m) (bare-played (netOf s) (begunAt (netOf s) (marking m)) r room))
 
 pub exchange-before : (s r : List ℕ) (k : ℕ) → bare (exchangeOf s r k) ≡ oldExchange s r k
-unfolding exchangeOf oldExchange
-exchange-before s r k = bare-then (judgeOf s) _ _ (λ n. bare-swapping (exchange (netOf s) r k))
+unfolding exchangeOf exchange exchanging oldExchange
+exchange-before s r k =
+    let n = netOf s in
+    bare-then (judgeOf s) _ _ (λ _.
+    bare-unless swapping (λ x. refl) (tooLong r) _ _
+    (bare-steps swapping (λ x. refl) model.ofTable (replay n 0 (opening n) r) _ _
+    (bare-unless swapping (λ x. refl) (noStep r k) _ _ (bare-unless swapping (λ x. refl) (notApart n r k) _ _ refl))))
 
 pub lift-before : (s r : List ℕ) (room : ℕ) → bare (liftOf s r room) ≡ oldLift s r room
-unfolding liftOf oldLift
-lift-before s r room = bare-then (judgeOf s) _ _ (λ n. bare-fitted (lift (netOf s) r) room)
-
-pub project-before : (s w : List ℕ) (room : ℕ) → bare (projectOf s w room) ≡ oldProject s w room
-unfolding projectOf oldProject
-project-before s w room = bare-then (judgeOf s) _ _ (λ n. bare-fitted (project (netOf s) w) room)
+unfolding liftOf fitted oldLift
+lift-before s r room = bare-lift (λ a. fitted a room) (λ x. refl) s r _ (bare-fitting (length (lifted (netOf s) (earliest (netOf s)) (opening (netOf s)) r)) room)
 
 pub lift-end-before : (s r : List ℕ) (room : ℕ) → bare (liftEndOf s r room) ≡ oldLiftEnd s r room
-unfolding liftEndOf oldLiftEnd
-lift-end-before s r room = bare-then (judgeOf s) _ _ (λ n. bare-ended (lift (netOf s) r) (basic (netOf s) .conditions) room)
+unfolding liftEndOf ended oldLiftEnd
+lift-end-before s r room = bare-lift (λ a. ended a (basic (netOf s) .conditions) room) (λ x. refl) s r _ (bare-fitting (basic (netOf s) .conditions) room)
+
+pub project-before : (s w : List ℕ) (room : ℕ) → bare (projectOf s w room) ≡ oldProject s w room
+unfolding projectOf fitted oldProject
+project-before s w room = bare-project (λ a. fitted a room) (λ x. refl) s w _ (bare-fitting (length (readBack (netOf s) w)) room)
 
 pub unfolded-replay-before : (s w : List ℕ) (room : ℕ) → bare (unfoldedReplayOf s w room) ≡ oldUnfoldedReplay s w room
-unfolding unfoldedReplayOf oldUnfoldedReplay
-unfolded-replay-before s w room = bare-then (judgeOf s) _ _ (λ n. bare-ended (project (netOf s) w) (basic (netOf s) .conditions) room)
+unfolding unfoldedReplayOf ended oldUnfoldedReplay
+unfolded-replay-before s w room = bare-project (λ a. ended a (basic (netOf s) .conditions) room) (λ x. refl) s w _ (bare-fitting (basic (netOf s) .conditions) room)
 
 -- ---- the answers of firings, with 11 and 12 back at 0
 

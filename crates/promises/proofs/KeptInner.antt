@@ -25,7 +25,7 @@ use Rattle.unfolded_step.specs.declared.Cause.the-variants as unfolded-causes
 use Rattle.unfolded_step.specs.declared.Step as unfolded-step
 use Rattle.unfolded_step.specs.declared.Step.the-variants as unfolded-steps
 use Rattle.unfolded_step.specs.Steps as unfolded
-use Rattle.game.specs.Calls.{leaves, onMarking}
+use Rattle.game.specs.Calls.{onMarking}
 use Rattle.played.specs.Begun.{begunAt}
 use Rattle.across.specs.Prepared.{preparedOf}
 use Rattle.promises.specs.Refused.{ofTable, ofLent, ofStep, ofSteps, ofUnfolding, listed, Refusing}

@@ -10,7 +10,7 @@ use Rattle.lists.specs.Lists.{mem}
 use Rattle.model.specs.Net.{Net, Stop, stopNumber, stopping}
 use Rattle.model.specs.Runs.{Played, ends, refused, State, opening, replay}
 use Rattle.model.specs.Unfolding.{basic}
-use Rattle.model.specs.Across.{Refusal, numberOf, placeOf, Answer, run, refusal, tooLong, unfoldingRefused, lift, project, exchange}
+use Rattle.model.specs.Across.{Refusal, numberOf, placeOf, tooLong, unfoldingRefused, earliest, lifted, repeated, again, readBack, noStep, notApart}
 use Rattle.model.specs.Lent.{marking}
 use Rattle.refusal.specs.declared.Judged.{Judged}
 use Rattle.refusal.specs.declared.Judged.the-variants.{Fine, Refused}
@@ -72,21 +72,6 @@ oldFitting needed room = oldNeed (leb needed room) 16 needed (fine needed)
 abbrev pub oldLent : ℕ → List ℕ → Old → Old
 oldLent c m rest = oldNeed (eqb (length m) c) 18 c (oldNeed (leb (length m) (firstAbove m)) 18 (firstAbove m) rest)
 
--- An answer of the model, into an output with so much room (01, Refusal numbers).
-abbrev pub oldFitted : Answer → ℕ → Old
-oldFitted (run w) room = oldFitting (length w) room
-oldFitted (refusal x) room = turned (numberOf x) (placeOf x)
-
--- The same where a marking of c conditions is written (01, Refusal numbers).
-abbrev pub oldEnded : Answer → ℕ → ℕ → Old
-oldEnded (run w) c room = oldFitting c room
-oldEnded (refusal x) c room = turned (numberOf x) (placeOf x)
-
--- An answer of the model whose two numbers are written where they stood (01, Runs across).
-abbrev pub oldSwapping : Answer → Old
-oldSwapping (run w) = fine 2
-oldSwapping (refusal x) = turned (numberOf x) (placeOf x)
-
 -- A lent output after a call (01, Refusal numbers).
 abbrev pub oldWritten : Old → List ℕ → List ℕ → List ℕ
 oldWritten (fine value) answer out = answer ++ drop (length answer) out
@@ -122,18 +107,34 @@ unfoldable pub oldReplayFrom : List ℕ → List ℕ → List ℕ → ℕ → Ol
 oldReplayFrom s m r room =
     oldThen (bare (judgeOf s)) (λ n. oldLent (netOf s .conditions) m (oldPlayed (netOf s) (begunAt (netOf s) (marking m)) r room))
 
--- Exchange, lift, project, and the ends of a lift and of an unfolded run (01, Runs across).
+-- The steps of a run exchanged (01, Runs across).
 unfoldable pub oldExchange : List ℕ → List ℕ → ℕ → Old
-oldExchange s r k = oldThen (bare (judgeOf s)) (λ n. oldSwapping (exchange (netOf s) r k))
+oldExchange s r k =
+    let n = netOf s in
+    oldThen (bare (judgeOf s)) (λ _. oldOr (tooLong r) (oldStuck (replay n 0 (opening n) r) (oldOr (noStep r k) (oldOr (notApart n r k) (fine 2)))))
 
+-- What a lift is refused with, before what is written of it (01, Runs across and Refusal numbers).
+abbrev pub oldLifting : List ℕ → List ℕ → Old → Old
+oldLifting s r rest =
+    let n = netOf s in
+    oldThen (bare (judgeOf s)) (λ _. oldOr (tooLong r) (oldOr (unfoldingRefused n) (oldStuck (replay n 0 (opening n) r) (oldOr (again (repeated n (earliest n) 0 (opening n) r)) rest))))
+
+-- The lift and its end (01, Runs across).
 unfoldable pub oldLift : List ℕ → List ℕ → ℕ → Old
-oldLift s r room = oldThen (bare (judgeOf s)) (λ n. oldFitted (lift (netOf s) r) room)
-
-unfoldable pub oldProject : List ℕ → List ℕ → ℕ → Old
-oldProject s w room = oldThen (bare (judgeOf s)) (λ n. oldFitted (project (netOf s) w) room)
+oldLift s r room = oldLifting s r (oldFitting (length (lifted (netOf s) (earliest (netOf s)) (opening (netOf s)) r)) room)
 
 unfoldable pub oldLiftEnd : List ℕ → List ℕ → ℕ → Old
-oldLiftEnd s r room = oldThen (bare (judgeOf s)) (λ n. oldEnded (lift (netOf s) r) (basic (netOf s) .conditions) room)
+oldLiftEnd s r room = oldLifting s r (oldFitting (basic (netOf s) .conditions) room)
+
+-- What an unfolded run is refused with, before what is written of it (01, Runs across and Refusal numbers).
+abbrev pub oldProjecting : List ℕ → List ℕ → Old → Old
+oldProjecting s w rest =
+    let u = basic (netOf s) in
+    oldThen (bare (judgeOf s)) (λ _. oldOr (tooLong w) (oldOr (unfoldingRefused (netOf s)) (oldStuck (replay u 0 (opening u) w) rest)))
+
+-- The projection and the end of an unfolded run (01, Runs across).
+unfoldable pub oldProject : List ℕ → List ℕ → ℕ → Old
+oldProject s w room = oldProjecting s w (oldFitting (length (readBack (netOf s) w)) room)
 
 unfoldable pub oldUnfoldedReplay : List ℕ → List ℕ → ℕ → Old
-oldUnfoldedReplay s w room = oldThen (bare (judgeOf s)) (λ n. oldEnded (project (netOf s) w) (basic (netOf s) .conditions) room)
+oldUnfoldedReplay s w room = oldProjecting s w (oldFitting (basic (netOf s) .conditions) room)

@@ -1,4 +1,5 @@
--- What is promised of the calls: which refusals they give, and what holds of several calls together.
+-- What is promised of the calls: which refusals they give and which condition these name, what the answers were before they named one, and
+-- what holds of several calls together.
 pub mod Refused
 pub mod Before
 pub mod Stopped
