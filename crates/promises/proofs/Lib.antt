@@ -1,6 +1,7 @@
 pub mod Refused
 pub mod Before
 pub mod Stopped
+pub mod Named
 pub mod Game
 pub mod Across
 pub mod Told
