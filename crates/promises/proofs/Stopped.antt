@@ -68,7 +68,9 @@ judging-judge s = go (judgeOf s) (judge-listed s)
 
 judging-or : (l : List ℕ) → T (plain l) → (o : Option Refusal) → T (listedIf l o) → Judging (refusedOr o)
 judging-or l h none t = inl (λ a. refl)
-judging-or l h (some x) t = inr (record { number = model.numberOf x; place = model.placeOf x; by = refusalBy x }, plain-not l h (record { number = model.numberOf x; place = model.placeOf x; by = refusalBy x }) t, λ a. refl)
+judging-or l h (some x) t =
+    let y : declared.Refusal = record { number = model.numberOf x; place = model.placeOf x; by = refusalBy x } in
+    inr (y, plain-not l h y t, λ a. refl)
 
 judging-eighteen : (b : Bool) (place : ℕ) → Judging (need b 18 place)
 unfolding need
