@@ -13,7 +13,7 @@ use Rattle.lists.proofs.Lowest.{failing-lowest, lowest-failing}
 use Rattle.model.specs.Net.{Net, Sound, Marking, lacking, free, contact, Stop, unknown, lacks, meets, firstStop, stopping}
 use Rattle.model.specs.Runs.{end, State, refused, replay}
 use Rattle.model.specs.Unfolding.{basic}
-use Rattle.model.specs.Demands.{Least, lacked, touched, StoppedBy, StoppedAt}
+use Rattle.model.specs.Stopped.{Least, lacked, touched, StoppedBy, StoppedAt}
 use Rattle.model.proofs.Replay.{replay-stops, stops-replay}
 use Rattle.model.proofs.Sets.{basic-sound}
 

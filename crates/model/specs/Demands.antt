@@ -1,14 +1,14 @@
 -- What is promised of runs, lifts, projections and exchanges: the statements of the theorems, demands 2 and 3 among them.
 use mathlib.Core.Path.{_≡_}
-use mathlib.Core.Bool.{Bool, true, not, _&&_}
+use mathlib.Core.Bool.{Bool, true, _&&_}
 use mathlib.Core.Logic.{_↔_}
 use mathlib.Core.Option.{none, some}
 use mathlib.Core.List.{List, _∷_, _++_}
-use Prim.Native.Nat.{ℕ, _+_, _<_, _≤_}
+use Prim.Native.Nat.{ℕ, _+_, _<_}
 use lib.Dec.{T}
 use lib.ListN.{getElem?, length}
 use Rattle.lists.specs.Lists.{mem, same, _∈_}
-use Rattle.model.specs.Net.{Net, Marking, begin, Stop, unknown, lacks, meets, stopping}
+use Rattle.model.specs.Net.{Net, Marking, begin, Stop, stopping}
 use Rattle.model.specs.Runs.{runs, end, Marker, atStart, byEvent, State, opening, ends}
 use Rattle.model.specs.Unfolding.{UnfoldedCondition, ordinary, copy, users, unfoldedConditions, basic}
 use Rattle.model.specs.Exchange.{exchanged}
@@ -25,40 +25,6 @@ pub record Stops (n : Net) (k : ℕ) (s : State) (r : List ℕ) (v : Stop) (i : 
   pub place : i ≡ k + length before
   pub plays : T (runs n (s .marking) before)
   pub stops : stopping n (end n (s .marking) before) event ≡ some v
-
--- ---- which condition stopped it
-
--- A number passes a test, and none below it does (02, No. 2).
-pub record Least (P : ℕ → Bool) (b : ℕ) : Type 0 where
-  pub passes : T (P b)
-  pub least : (c : ℕ) → T (P c) → b ≤ c
-
--- An event lacks a condition that is a precondition of it and does not hold (01, Playing the table).
-unfoldable pub lacked : Net → Marking → ℕ → ℕ → Bool
-lacked n m e b = mem b (n .preconditions e) && not (m b)
-
--- An event is in contact on a condition that is a postcondition of it, ordinary, holds, and is no precondition of it (01, Playing
--- the table).
-unfoldable pub touched : Net → Marking → ℕ → ℕ → Bool
-touched n m e b = mem b (n .postconditions e) && (m b && (not (n .persistent b) && not (mem b (n .preconditions e))))
-
--- A number is stopped because it is that of no event; an event by the lowest condition that it lacks, or, where all its preconditions
--- hold, by the lowest on which it is in contact (02, No. 2).
-abbrev pub StoppedBy : Net → Marking → ℕ → Stop → Type 0
-StoppedBy n m e unknown = e < n .events → ⊥
-StoppedBy n m e (lacks b) = (e < n .events) × Least (lacked n m e) b
-StoppedBy n m e (meets b) = (e < n .events) × ((c : ℕ) → T (mem c (n .preconditions e)) → T (m c)) × Least (touched n m e) b
-
--- A run begun at a marking is stopped at step i, steps counted from k: those before it are a run, and the next is stopped by that where
--- they end (02, No. 2).
-pub record StoppedAt (n : Net) (k : ℕ) (m : Marking) (r : List ℕ) (v : Stop) (i : ℕ) : Type 0 where
-  pub before : List ℕ
-  pub event : ℕ
-  pub rest : List ℕ
-  pub splits : r ≡ before ++ event ∷ rest
-  pub place : i ≡ k + length before
-  pub plays : T (runs n m before)
-  pub by : StoppedBy n (end n m before) event v
 
 -- ---- demand 2
 

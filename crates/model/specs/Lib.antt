@@ -9,4 +9,5 @@ pub mod Exchange
 pub mod Across
 pub mod Paper
 pub mod Demands
+pub mod Stopped
 pub mod Examples

@@ -18,7 +18,7 @@ use Rattle.model.specs.Exchange.{apartStep, exchanged}
 use Rattle.model.specs.Across.{Whose, Refusal, stopped, Answer, run, refusal, unless, stuck, tooLong, unfoldingRefused, earliest, lifted, repeated, again, lifting, lift, readBack, projecting, project, noStep, notApart, exchanging, exchange}
 use Rattle.model.specs.Across as model
 use Rattle.model.specs.Lent.{marking}
-use Rattle.model.specs.Demands.{StoppedBy, StoppedAt}
+use Rattle.model.specs.Stopped.{StoppedBy, StoppedAt}
 use Rattle.model.proofs.Sets.{basic-sound}
 use Rattle.model.proofs.Stopped.{stopping-exactly, refused-exactly}
 use Rattle.refusal.specs.declared.By.the-variants.{Nothing}

@@ -9,7 +9,7 @@ use Rattle.lists.specs.Lists.{mem}
 use Rattle.model.specs.Net.{Net, Marking, lacks, meets}
 use Rattle.model.specs.Unfolding.{basic}
 use Rattle.model.specs.Across.{Whose, tooLong}
-use Rattle.model.specs.Demands.{StoppedBy, StoppedAt}
+use Rattle.model.specs.Stopped.{StoppedBy, StoppedAt}
 use Rattle.refusal.specs.declared.Refusal.{Refusal}
 use Rattle.refusal.specs.declared.Judged.{Judged}
 use Rattle.refusal.specs.declared.Judged.the-variants.{Fine, Refused}
