@@ -9,93 +9,116 @@ pub struct Answer {
     pub by: u64,
 }
 
+// An answer of three words comes back through a pointer before the other arguments: on x86-64 that is how C gets it, and the module
+// that is compiled for other machines is made for x86-64.
 extern "C" {
-    fn dovetrellis_judge(table: *const u8, table_length: usize) -> Answer;
+    fn dovetrellis_judge(answer: *mut Answer, table: *const u8, table_length: usize);
     fn dovetrellis_fire(
+        answer: *mut Answer,
         table: *const u8,
         table_length: usize,
         marking: *mut u8,
         marking_length: usize,
         event: u16,
-    ) -> Answer;
+    );
     fn dovetrellis_replay(
+        answer: *mut Answer,
         table: *const u8,
         table_length: usize,
         run: *const u16,
         run_length: usize,
         end: *mut u8,
         end_length: usize,
-    ) -> Answer;
+    );
     fn dovetrellis_lift(
+        answer: *mut Answer,
         table: *const u8,
         table_length: usize,
         run: *const u16,
         run_length: usize,
         out: *mut u16,
         out_length: usize,
-    ) -> Answer;
+    );
     fn dovetrellis_project(
+        answer: *mut Answer,
         table: *const u8,
         table_length: usize,
         lifted: *const u16,
         lifted_length: usize,
         out: *mut u16,
         out_length: usize,
-    ) -> Answer;
+    );
     fn dovetrellis_unfolded_pre(
+        answer: *mut Answer,
         table: *const u8,
         table_length: usize,
         unfolded: u16,
         out: *mut u16,
         out_length: usize,
         count: *mut u64,
-    ) -> Answer;
+    );
     fn dovetrellis_unfolded_post(
+        answer: *mut Answer,
         table: *const u8,
         table_length: usize,
         unfolded: u16,
         out: *mut u16,
         out_length: usize,
         count: *mut u64,
-    ) -> Answer;
+    );
     fn dovetrellis_unfolded_fire(
+        answer: *mut Answer,
         table: *const u8,
         table_length: usize,
         marking: *mut u8,
         marking_length: usize,
         unfolded: u16,
-    ) -> Answer;
+    );
     fn dovetrellis_element(
+        answer: *mut Answer,
         table: *const u8,
         table_length: usize,
         element: u64,
         out: *mut u8,
         out_length: usize,
         count: *mut u64,
-    ) -> Answer;
+    );
 }
 
 // Safety, for every call below: pointers and lengths are those of slices, which do not overlap, and the header asks no more.
 
+/// What a call leaves in the answer that it is handed.
+fn answer(call: impl FnOnce(*mut Answer)) -> Answer {
+    let mut answer = Answer {
+        number: u64::MAX,
+        place: 0,
+        by: 0,
+    };
+    call(&mut answer);
+    answer
+}
+
 pub fn judge(table: &[u8]) -> Answer {
-    unsafe { dovetrellis_judge(table.as_ptr(), table.len()) }
+    answer(|to| unsafe { dovetrellis_judge(to, table.as_ptr(), table.len()) })
 }
 
 pub fn fire(table: &[u8], marking: &mut [u8], event: u16) -> Answer {
-    unsafe {
+    answer(|to| unsafe {
         dovetrellis_fire(
+            to,
             table.as_ptr(),
             table.len(),
             marking.as_mut_ptr(),
             marking.len(),
             event,
         )
-    }
+    })
 }
 
 pub fn replay(table: &[u8], run: &[u16], end: &mut [u8]) -> Answer {
-    unsafe {
+    answer(|to| unsafe {
         dovetrellis_replay(
+            to,
             table.as_ptr(),
             table.len(),
             run.as_ptr(),
@@ -103,18 +126,20 @@ pub fn replay(table: &[u8], run: &[u16], end: &mut [u8]) -> Answer {
             end.as_mut_ptr(),
             end.len(),
         )
-    }
+    })
 }
 
 /// A call that takes a run to another one.
-type Across = unsafe extern "C" fn(*const u8, usize, *const u16, usize, *mut u16, usize) -> Answer;
+type Across =
+    unsafe extern "C" fn(*mut Answer, *const u8, usize, *const u16, usize, *mut u16, usize);
 
 /// A call that lists something of an unfolded event.
-type Lists = unsafe extern "C" fn(*const u8, usize, u16, *mut u16, usize, *mut u64) -> Answer;
+type Lists = unsafe extern "C" fn(*mut Answer, *const u8, usize, u16, *mut u16, usize, *mut u64);
 
 fn across(call: Across, table: &[u8], run: &[u16], out: &mut [u16]) -> Answer {
-    unsafe {
+    answer(|to| unsafe {
         call(
+            to,
             table.as_ptr(),
             table.len(),
             run.as_ptr(),
@@ -122,13 +147,14 @@ fn across(call: Across, table: &[u8], run: &[u16], out: &mut [u16]) -> Answer {
             out.as_mut_ptr(),
             out.len(),
         )
-    }
+    })
 }
 
 fn lists(call: Lists, table: &[u8], unfolded: u16, out: &mut [u16]) -> Answer {
     let mut count = 0;
-    unsafe {
+    answer(|to| unsafe {
         call(
+            to,
             table.as_ptr(),
             table.len(),
             unfolded,
@@ -136,7 +162,7 @@ fn lists(call: Lists, table: &[u8], unfolded: u16, out: &mut [u16]) -> Answer {
             out.len(),
             &mut count,
         )
-    }
+    })
 }
 
 pub fn lift(table: &[u8], run: &[u16], out: &mut [u16]) -> Answer {
@@ -156,21 +182,23 @@ pub fn unfolded_post(table: &[u8], unfolded: u16, out: &mut [u16]) -> Answer {
 }
 
 pub fn unfolded_fire(table: &[u8], marking: &mut [u8], unfolded: u16) -> Answer {
-    unsafe {
+    answer(|to| unsafe {
         dovetrellis_unfolded_fire(
+            to,
             table.as_ptr(),
             table.len(),
             marking.as_mut_ptr(),
             marking.len(),
             unfolded,
         )
-    }
+    })
 }
 
 pub fn element(table: &[u8], element: u64, out: &mut [u8]) -> Answer {
     let mut count = 0;
-    unsafe {
+    answer(|to| unsafe {
         dovetrellis_element(
+            to,
             table.as_ptr(),
             table.len(),
             element,
@@ -178,5 +206,5 @@ pub fn element(table: &[u8], element: u64, out: &mut [u8]) -> Answer {
             out.len(),
             &mut count,
         )
-    }
+    })
 }
