@@ -35,6 +35,12 @@ any-in t [] e i h = absurd i
 any-in t (x ∷ r) e i h =
     or-cases (eqb e x) (mem e r) i (λ q. or-left (t x) (any t r) (subst (λ (y : ℕ). T (t y)) (eqb→eq e x q) h)) (λ q. or-right (t x) (any t r) (any-in t r e q h))
 
+pub any-out : (t : ℕ → Bool) (r : List ℕ) → T (any t r) → (e : ℕ) × T (mem e r) × T (t e)
+any-out t [] h = absurd h
+any-out t (x ∷ r) h =
+    or-cases (t x) (any t r) h (λ p. (x, or-left (eqb x x) (mem x r) (eqb-refl x), p))
+    (λ p. let i = any-out t r p in (i .0, or-right (eqb (i .0) x) (mem (i .0) r) (i .1), i .2))
+
 -- ---- failing
 
 pub nothing-fails : (f : ℕ → Bool) (l : List ℕ) → nothing (failing f l) ≡ all f l

@@ -47,6 +47,17 @@ unfolding runs end
 runs-snoc n m [] e t c = and-both (can n m e) true c tt
 runs-snoc n m (x ∷ a) e t c = runs-cons n m x (a ++ e ∷ []) (runs-first n m x a t) (runs-snoc n (fire n m x) a e (runs-rest n m x a t) c)
 
+-- the steps before and the steps after a place
+pub runs-before : (n : Net) (m : Marking) (a r : List ℕ) → T (runs n m (a ++ r)) → T (runs n m a)
+unfolding runs
+runs-before n m [] r t = tt
+runs-before n m (x ∷ a) r t = runs-cons n m x a (runs-first n m x (a ++ r) t) (runs-before n (fire n m x) a r (runs-rest n m x (a ++ r) t))
+
+pub runs-after : (n : Net) (m : Marking) (a r : List ℕ) → T (runs n m (a ++ r)) → T (runs n (end n m a) r)
+unfolding end
+runs-after n m [] r t = t
+runs-after n m (x ∷ a) r t = runs-after n (fire n m x) a r (runs-rest n m x (a ++ r) t)
+
 -- each step is an event of the net
 pub runs-events : (n : Net) (m : Marking) (r : List ℕ) → T (runs n m r) → (e : ℕ) → e ∈ r → e < n .events
 runs-events n m [] t e i = absurd (List·Memᴰ·not-nil i)

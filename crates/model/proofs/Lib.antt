@@ -20,7 +20,8 @@ pub mod Answers
 pub mod Limits
 pub mod Exchange
 pub mod ExchangeLift
-pub mod Earliest
+pub mod Own
+pub mod Readings
 pub mod Demands
 pub mod Examples
 pub mod Premises

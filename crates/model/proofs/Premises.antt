@@ -12,7 +12,7 @@ use Rattle.model.specs.Runs.{runs, end, byEvent}
 use Rattle.model.specs.Unfolding.{copy, unfoldedConditions, unfoldedEvents, basic}
 use Rattle.model.specs.Numbering.{number}
 use Rattle.model.specs.Exchange.{exchanged}
-use Rattle.model.specs.Across.{other, run, refusal, tooLong, within, unfoldingRefused, earliest, lift, readBack, project, exchange}
+use Rattle.model.specs.Across.{other, run, refusal, tooLong, within, unfoldingRefused, ownOrEarliest, lift, readBack, project, exchange}
 use Rattle.model.specs.Stopped.{StoppedBy}
 use Rattle.model.specs.Demands.{Lifts, Projects, FirstAgain, holdsAfter, Exchanged}
 use Rattle.model.specs.Examples.{_↝_, net, one, two, three, four, netA, netB, netC, netD, netE, netR, netL}
@@ -85,7 +85,7 @@ again-B : lift netB (two 0 0) ≡ refusal (other 15 1)
 unfolding lift netB one two net
 again-B = refl
 
--- An event that marks comes twice in net B's run, first at step 1.
+-- Net B's event 0 comes twice and marks what event 1 uses, first at step 1.
 pub twice-B : FirstAgain netB (two 0 0) 1
 twice-B = lift-again netB (two 0 0) short-B unfolds-B 1 .0 again-B .1
 
@@ -104,7 +104,7 @@ lift-E : lift (netE (three 0 1 2)) (three 0 1 2) ≡ run (three 0 1 2)
 unfolding lift netE one three net
 lift-E = refl
 
-pub exchanged-E : Exchanged (netE (three 0 1 2)) (earliest (netE (three 0 1 2))) (three 0 1 2) 0
+pub exchanged-E : Exchanged (netE (three 0 1 2)) (ownOrEarliest (netE (three 0 1 2))) (three 0 1 2) 0
 exchanged-E = exchange-exchanged (netE (three 0 1 2)) (three 0 1 2) 0 (three 1 0 2) exchange-E .1
 
 pub lifted-E : lift (netE (three 0 1 2)) (three 1 0 2) ≡ run (exchanged 0 (three 0 1 2))

@@ -75,3 +75,12 @@ pub none-repeats : (n : Net) (l : Lifting) (k : ℕ) (s : State) (b : List ℕ) 
 unfolding after
 none-repeats n l k s [] e a h = repeated-cons n l k s e a h .0
 none-repeats n l k s (x ∷ b) e a h = none-repeats n l (suc k) (step n s x) b e a (repeated-cons n l k s x (b ++ e ∷ a) h .1)
+
+-- one step more that is none
+pub repeated-snoc : (n : Net) (l : Lifting) (k : ℕ) (s : State) (b : List ℕ) (e : ℕ) → repeated n l k s b ≡ none → l .repeats (after n s b) e ≡ false
+    → repeated n l k s (b ++ e ∷ []) ≡ none
+unfolding after repeated
+repeated-snoc n l k s [] e o h = repeated-build n l k s e [] h o
+repeated-snoc n l k s (x ∷ b) e o h =
+    let a = repeated-cons n l k s x b o in
+    repeated-build n l k s x (b ++ e ∷ []) (a .0) (repeated-snoc n l (suc k) (step n s x) b e (a .1) h)

@@ -3,12 +3,12 @@ use mathlib.Core.Bool.{Bool, true, false, not, _&&_, cond}
 use mathlib.Core.Option.{Option, none, some}
 use mathlib.Core.List.{List, [], _∷_, map}
 use Prim.Native.Nat.{ℕ, suc}
-use lib.Dec.{ltb, leb}
+use lib.Dec.{eqb, ltb, leb}
 use lib.ListN.{length}
-use Rattle.lists.specs.Lists.{any, failing, count}
+use Rattle.lists.specs.Lists.{mem, any, failing, count}
 use Rattle.model.specs.Net.{Net, begin, Stop, stopNumber, stopCondition}
-use Rattle.model.specs.Runs.{Marker, atStart, State, opening, step, Played, ends, refused, replay}
-use Rattle.model.specs.Unfolding.{UnfoldedEvent, reads, origin, basic, idle}
+use Rattle.model.specs.Runs.{Marker, atStart, byEvent, State, opening, step, Played, ends, refused, replay}
+use Rattle.model.specs.Unfolding.{users, UnfoldedEvent, reads, origin, basic, idle}
 use Rattle.model.specs.Numbering.{number, conditionCount, eventCount}
 use Rattle.model.specs.Exchange.{apartStep, exchanged}
 
@@ -103,15 +103,20 @@ abbrev pub orStart : Option Marker → Marker
 orStart none = atStart
 orStart (some m) = m
 
--- An event marks if it has a persistent postcondition (01, Runs across).
-unfoldable pub marks : Net → ℕ → Bool
-marks n e = any (n .persistent) (n .postconditions e)
+-- An event marks for others if a persistent postcondition of it has a user other than itself (02, No. 3).
+unfoldable pub marksForOthers : Net → ℕ → Bool
+unfolding users
+marksForOthers n e = any (λ b. n .persistent b && any (λ u. not (eqb u e)) (users n b)) (n .postconditions e)
 
--- The rule picks the earliest marker, and calls a later occurrence of an event that marks a repeat (01, Runs across;
--- paper, theorem 6.1).
-unfoldable pub earliest : Net → Lifting
-unfolding marks
-earliest n = record { pick = λ s e b. orStart (s .first b); repeats = λ s e. marks n e && s .seen e }
+-- The rule: an event that has occurred picks itself for a condition that it marks, and else the earliest marker is picked; a later
+-- occurrence of an event that marks for others is a repeat (02, No. 3; paper, theorem 6.1).
+unfoldable pub ownOrEarliest : Net → Lifting
+unfolding marksForOthers
+ownOrEarliest n =
+    record {
+      pick = λ s e b. cond (s .seen e && mem b (n .postconditions e)) (byEvent e) (orStart (s .first b));
+      repeats = λ s e. marksForOthers n e && s .seen e;
+    }
 
 -- The unfolded event that an event fired at a state becomes: it picks a marker for each persistent precondition (01, Runs
 -- across).
@@ -144,8 +149,8 @@ lifting n l k s r = unless (stuck ofTable (replay n k s r)) (unless (again (repe
 
 -- The lift of a run of a table: 3, then 13 and 14, then its steps and 15 (01, Runs across and Refusal numbers).
 unfoldable pub lift : Net → List ℕ → Answer
-unfolding tooLong unfoldingRefused lifting earliest opening
-lift n r = unless (tooLong r) (unless (unfoldingRefused n) (lifting n (earliest n) 0 (opening n) r))
+unfolding tooLong unfoldingRefused lifting ownOrEarliest opening
+lift n r = unless (tooLong r) (unless (unfoldingRefused n) (lifting n (ownOrEarliest n) 0 (opening n) r))
 
 -- ---- project
 

@@ -82,6 +82,16 @@ unfoldable pub netR : Net
 unfolding net one two three
 netR = net (three 0 0 1) ((one 0 ↝ one 2) ∷ (two 1 2 ↝ []) ∷ []) (two 0 1)
 
+-- Net O, whose event 1 alone uses conditions 0 and 1, of which it marks the first, and also marks condition 2, which nobody uses.
+unfoldable pub netO : Net
+unfolding net two three
+netO = net (three 1 1 1) (([] ↝ two 0 1) ∷ (two 0 1 ↝ two 0 2) ∷ []) []
+
+-- Net U, whose event marks a persistent condition that nobody uses.
+unfoldable pub netU : Net
+unfolding net one two
+netU = net (two 0 1) ((one 0 ↝ two 0 1) ∷ []) (one 0)
+
 -- Net S, where two preconditions, or a persistent and two ordinary postconditions, may stop an event at once.
 unfoldable pub netS : Net
 unfolding net one two three four
@@ -201,7 +211,7 @@ passAll (x ∷ xs) = passes x && passAll xs
 
 -- ---- the tables
 
--- The examples that the requirements ask to be proved (01, Nets to test with: the lines marked P).
+-- The examples that the requirements ask to be proved (01, Nets to test with: the lines marked P; 02, No. 3: net C).
 unfoldable pub table : List Line
 unfolding netA netB netC netD netE one two three four
 table =
@@ -222,6 +232,7 @@ table =
     ∷ lists netC 0 (one 0) (two 0 1)
     ∷ lists netC 1 (one 1) (one 1)
     ∷ lifts netC (one 0) (one 0) (two 0 1)
+    ∷ lifts netC (two 0 0) (two 0 1) (two 0 1)
     ∷ lifts (netE (two 0 1)) (three 0 1 2) (three 0 1 3) (two 3 4)
     ∷ lifts (netE (two 0 1)) (three 1 0 2) (three 1 0 4) (two 3 4)
     ∷ notExchanged (netE (two 0 1)) (three 0 1 2) 0 17 0 none
@@ -234,12 +245,17 @@ table =
     ∷ []
 
 -- Further lines: the examples not marked P, the limits, and the points on which a reader might doubt (01, Nets to test with,
--- Errors that look right and Refusal numbers).
+-- Errors that look right and Refusal numbers; 02, No. 3).
 unfoldable pub further : List Line
-unfolding netA netB netC netD netE netR netS netL netW one two three four
+unfolding netA netB netC netD netE netR netO netU netS netL netW one two three four
 further =
     plays netC (two 0 0) (one 0)
-    ∷ notLifted netC (two 0 0) 15 1 none
+    ∷ lifts netC (three 0 0 0) (three 0 1 1) (two 0 1)
+    ∷ lifts netO (four 0 1 1 1) (four 0 4 6 6) (three 1 2 4)
+    ∷ notLifted netO (four 0 1 1 0) 15 3 none
+    ∷ notLifted netO (four 0 0 1 0) 15 1 none
+    ∷ notProjected netO (three 0 4 4) 12 2 (some 2)
+    ∷ lifts netU (three 0 0 0) (three 0 0 0) (one 0)
     ∷ plays (netA (one 0)) [] (one 0)
     ∷ lifts (netA (one 0)) [] [] (one 0)
     ∷ projects (netA (one 0)) [] []
