@@ -2,25 +2,26 @@
 use mathlib.Core.Path.{_≡_, refl}
 use mathlib.Core.Bool.{false}
 use mathlib.Core.Option.{none, some}
-use mathlib.Core.List.{[], _∷_}
+use mathlib.Core.List.{[], _∷_, List·Memᴰ·head}
 use Prim.Native.Nat.{ℕ}
 use lib.Dec.{T}
 use lib.ListN.{getElem?}
-use Rattle.lists.specs.Lists.{mem}
+use Rattle.lists.specs.Lists.{mem, _∈_}
 use Rattle.model.specs.Net.{Sound, Marking, begin, meets, stopping}
 use Rattle.model.specs.Runs.{runs, end, byEvent}
-use Rattle.model.specs.Unfolding.{copy, unfoldedConditions, unfoldedEvents, basic}
+use Rattle.model.specs.Unfolding.{copy, unfoldedConditions, reads, unfoldedEvents, picked, origin, basic}
 use Rattle.model.specs.Numbering.{number}
 use Rattle.model.specs.Exchange.{exchanged}
 use Rattle.model.specs.Across.{other, run, refusal, tooLong, within, unfoldingRefused, ownOrEarliest, lift, readBack, project, exchange}
 use Rattle.model.specs.Stopped.{StoppedBy}
-use Rattle.model.specs.Demands.{Lifts, Projects, FirstAgain, holdsAfter, Exchanged}
+use Rattle.model.specs.Demands.{Lifts, Projects, FirstAgain, Reading, Unread, holdsAfter, Exchanged}
 use Rattle.model.specs.Examples.{_↝_, net, one, two, three, four, netA, netB, netC, netD, netE, netR, netL}
 use Rattle.model.proofs.Soundness.{sound, sound-of}
 use Rattle.model.proofs.Stopped.{stopping-exactly}
 use Rattle.model.proofs.Counts.{number-back}
 use Rattle.model.proofs.Limits.{Idlest, refused-13, refused-14}
-use Rattle.model.proofs.Demands.{lift-lifts, lift-again, project-projects, lift-project, unfolded-marking, exchange-exchanged, exchange-not-apart, exchange-lifts}
+use Rattle.model.proofs.Readings.{forced}
+use Rattle.model.proofs.Demands.{lift-lifts, lift-again, lift-read, lift-unread, lift-unread-at, project-projects, lift-project, unfolded-marking, exchange-exchanged, exchange-not-apart, exchange-lifts}
 
 -- ---- soundness of the nets
 
@@ -73,9 +74,9 @@ back-A = lift-project (netA (one 0)) (four 0 1 2 1) (four 0 2 3 2) lift-A
 pub projects-A : Projects (netA (one 0)) (four 0 2 3 2) (four 0 1 2 1)
 projects-A = project-projects (netA (one 0)) sound-A (four 0 2 3 2) (four 0 1 2 1) back-A
 
-short-B : tooLong (two 0 0) ≡ none
+two-short : tooLong (two 0 0) ≡ none
 unfolding tooLong two
-short-B = refl
+two-short = refl
 
 unfolds-B : unfoldingRefused netB ≡ none
 unfolding unfoldingRefused netB net one two
@@ -87,7 +88,35 @@ again-B = refl
 
 -- Net B's event 0 comes twice and marks what event 1 uses, first at step 1.
 pub twice-B : FirstAgain netB (two 0 0) 1
-twice-B = lift-again netB (two 0 0) short-B unfolds-B 1 .0 again-B .1
+twice-B = lift-again netB (two 0 0) two-short unfolds-B 1 .0 again-B .1
+
+-- No run of the unfolded net reads back as net B's run, and none goes past step 1.
+pub none-reads-B : Reading netB (two 0 0) → ⊥
+none-reads-B = lift-unread netB (two 0 0) two-short unfolds-B sound-B .0 (1, again-B) .1
+
+pub unread-B : Unread netB (two 0 0) 1
+unread-B = lift-unread-at netB (two 0 0) two-short unfolds-B sound-B 1 .0 again-B .1
+
+unfolds-C : unfoldingRefused netC ≡ none
+unfolding unfoldingRefused netC net one
+unfolds-C = refl
+
+lift-C : lift netC (two 0 0) ≡ run (two 0 1)
+unfolding lift netC one two net
+lift-C = refl
+
+-- One reads back as net C's run, and its second step picks event 0 itself.
+pub reading-C : Reading netC (two 0 0)
+reading-C = lift-read netC (two 0 0) two-short unfolds-C sound-C .0 (two 0 1, lift-C)
+
+again-C : (b : ℕ) → b ∈ reads netC (origin netC 1 .event) → T (mem b (netC .postconditions (origin netC 1 .event)))
+    → T (picked (reads netC (origin netC 1 .event)) (origin netC 1 .colour) b (byEvent (origin netC 1 .event)))
+unfolding two one readBack netC net origin
+again-C b = forced netC sound-C (two 0 1) (lift-lifts netC (two 0 0) (two 0 1) lift-C .run) (one 0) 1 [] refl tt b
+
+pub itself-C : T (picked (reads netC 0) (origin netC 1 .colour) 0 (byEvent 0))
+unfolding one netC net origin reads
+itself-C = again-C 0 (List·Memᴰ·head refl) tt
 
 -- A copy holds at the end of net A's lifted run exactly if its marker has marked it.
 pub marking-A : (b : ℕ) → getElem? (unfoldedConditions (netA (one 0))) b ≡ some (copy 2 (byEvent 0) 1)
