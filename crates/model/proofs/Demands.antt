@@ -13,7 +13,8 @@ use Rattle.model.specs.Runs.{runs, end, opening, after, ends}
 use Rattle.model.specs.Unfolding.{UnfoldedCondition, unfoldedConditions, basic}
 use Rattle.model.specs.Exchange.{apartStep, exchanged}
 use Rattle.model.specs.Across.{ofTable, ofUnfolding, stopped, other, run, refusal, unless, mostSteps, tooLong, unfoldingRefused, Lifting, ownOrEarliest, lifted, repeated, lifting, lift, readBack, projecting, project, exchanging, exchange}
-use Rattle.model.specs.Demands.{Stops, Correspond, Lifts, Projects, Again, FirstAgain, Reading, Unread, holdsAfter, Exchanged}
+use Rattle.model.specs.Demands.{Stops, Correspond, Lifts, Projects, holdsAfter, Exchanged}
+use Rattle.model.specs.Readings.{Again, FirstAgain, Reading, Unread}
 use Rattle.model.proofs.Laws.{Lawful, Plain}
 use Rattle.model.proofs.Copies.{reached-opening, copies-opening, correspond, determined, marking-after, status-after}
 use Rattle.model.proofs.Project.{project-from, projection, length-back}

@@ -15,7 +15,7 @@ use Rattle.model.specs.Net.{Net, can}
 use Rattle.model.specs.Runs.{Marker, byEvent, State, opening, after}
 use Rattle.model.specs.Unfolding.{users, reads}
 use Rattle.model.specs.Across.{orStart, marksForOthers, ownOrEarliest, repeated}
-use Rattle.model.specs.Demands.{ForAnother, Again, FirstAgain}
+use Rattle.model.specs.Readings.{ForAnother, Again, FirstAgain}
 use Rattle.model.proofs.Firing.{can-concession, pre-holds}
 use Rattle.model.proofs.Laws.{marked, First, Reached, Lawful, Plain}
 use Rattle.model.proofs.Copies.{seen-after}

@@ -14,7 +14,8 @@ use Rattle.model.specs.Numbering.{number}
 use Rattle.model.specs.Exchange.{exchanged}
 use Rattle.model.specs.Across.{other, run, refusal, tooLong, within, unfoldingRefused, ownOrEarliest, lift, readBack, project, exchange}
 use Rattle.model.specs.Stopped.{StoppedBy}
-use Rattle.model.specs.Demands.{Lifts, Projects, FirstAgain, Reading, Unread, holdsAfter, Exchanged}
+use Rattle.model.specs.Demands.{Lifts, Projects, holdsAfter, Exchanged}
+use Rattle.model.specs.Readings.{FirstAgain, Reading, Unread}
 use Rattle.model.specs.Examples.{_↝_, net, one, two, three, four, netA, netB, netC, netD, netE, netR, netL}
 use Rattle.model.proofs.Soundness.{sound, sound-of}
 use Rattle.model.proofs.Stopped.{stopping-exactly}

@@ -17,7 +17,7 @@ use Rattle.model.specs.Net.{Net, Sound, Marking, begin, can, fire}
 use Rattle.model.specs.Runs.{runs, end, byEvent, State, opening, step, after}
 use Rattle.model.specs.Unfolding.{sameMarker, copy, users, reads, picked, takes, puts, origin, basic}
 use Rattle.model.specs.Across.{marksForOthers, ownOrEarliest, lifted, repeated, readBack}
-use Rattle.model.specs.Demands.{Reading, Unread, Forced}
+use Rattle.model.specs.Readings.{Reading, Unread, Forced}
 use Rattle.model.proofs.Firing.{runs-first, runs-rest, runs-snoc, runs-before, runs-after, can-event, can-concession, free-pre, unblocked}
 use Rattle.model.proofs.Unfolded.{event-marks, event-uses, copy-in, colour-out, takes-at, puts-at, origin-in}
 use Rattle.model.proofs.Laws.{marked}

@@ -3,14 +3,14 @@ use mathlib.Core.Path.{_≡_}
 use mathlib.Core.Bool.{Bool, true, _&&_}
 use mathlib.Core.Logic.{_↔_}
 use mathlib.Core.Option.{none, some}
-use mathlib.Core.List.{List, [], _∷_, _++_}
+use mathlib.Core.List.{List, _∷_, _++_}
 use Prim.Native.Nat.{ℕ, _+_, _<_}
 use lib.Dec.{T}
 use lib.ListN.{getElem?, length}
 use Rattle.lists.specs.Lists.{mem, same, _∈_}
 use Rattle.model.specs.Net.{Net, Marking, begin, Stop, stopping}
 use Rattle.model.specs.Runs.{runs, end, Marker, atStart, byEvent, State, opening, ends}
-use Rattle.model.specs.Unfolding.{UnfoldedCondition, ordinary, copy, users, unfoldedConditions, reads, picked, origin, basic}
+use Rattle.model.specs.Unfolding.{UnfoldedCondition, ordinary, copy, users, unfoldedConditions, basic}
 use Rattle.model.specs.Exchange.{exchanged}
 use Rattle.model.specs.Across.{run, Lifting, lifted, repeated, readBack}
 
@@ -51,54 +51,6 @@ pub record Projects (n : Net) (w r : List ℕ) : Type 0 where
   pub back : readBack n w ≡ r
   pub run : T (runs n (begin n) r)
   pub ends : Correspond n (end n (begin n) r) (end (basic n) (begin (basic n)) w)
-
--- An event marks for another: a persistent postcondition of it has a user other than itself (02, No. 3).
-pub record ForAnother (n : Net) (e : ℕ) : Type 0 where
-  pub condition : ℕ
-  pub user : ℕ
-  pub marks : T (mem condition (n .postconditions e))
-  pub persists : T (n .persistent condition)
-  pub uses : user ∈ users n condition
-  pub other : user ≡ e → ⊥
-
--- At step i an event that marks for another comes again (02, No. 3).
-pub record Again (n : Net) (r : List ℕ) (i : ℕ) : Type 0 where
-  pub before : List ℕ
-  pub event : ℕ
-  pub rest : List ℕ
-  pub splits : r ≡ before ++ event ∷ rest
-  pub place : i ≡ length before
-  pub marking : ForAnother n event
-  pub earlier : T (mem event before)
-
--- Step i is the first of them, for none is among the steps before it: the place of refusal 15 (02, No. 3).
-pub record FirstAgain (n : Net) (r : List ℕ) (i : ℕ) : Type 0 where
-  pub here : Again n r i
-  pub first : (j : ℕ) → Again n (here .before) j → ⊥
-
--- A reading of a list of events is a run of the unfolded net from its start that reads back as it (02, No. 3).
-pub record Reading (n : Net) (r : List ℕ) : Type 0 where
-  pub unfolded : List ℕ
-  pub run : T (runs (basic n) (begin (basic n)) unfolded)
-  pub back : readBack n unfolded ≡ r
-
--- Step i is the first that no reading goes past: the steps before it have one, and together with it they have none (02, No. 3).
-pub record Unread (n : Net) (r : List ℕ) (i : ℕ) : Type 0 where
-  pub before : List ℕ
-  pub event : ℕ
-  pub rest : List ℕ
-  pub splits : r ≡ before ++ event ∷ rest
-  pub place : i ≡ length before
-  pub read : Reading n before
-  pub broken : Reading n (before ++ event ∷ []) → ⊥
-
--- The picks of an unfolded list are forced: where the event behind a step came before, it is what the step picks for each persistent
--- precondition that the event marks (02, No. 3).
-abbrev pub Forced : Net → List ℕ → Type 0
-Forced n w =
-    (before : List ℕ) (j : ℕ) (rest : List ℕ) → w ≡ before ++ j ∷ rest → T (mem (origin n j .event) (readBack n before))
-    → (b : ℕ) → b ∈ reads n (origin n j .event) → T (mem b (n .postconditions (origin n j .event)))
-    → T (picked (reads n (origin n j .event)) (origin n j .colour) b (byEvent (origin n j .event)))
 
 -- Whether an unfolded condition holds after a run of the unfolded net, told from the run r that it reads back as alone: an
 -- ordinary condition as in the table, a copy exactly if its marker has marked it (paper, section 6.1).

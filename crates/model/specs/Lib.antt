@@ -10,5 +10,6 @@ pub mod Exchange
 pub mod Across
 pub mod Paper
 pub mod Demands
+pub mod Readings
 pub mod Stopped
 pub mod Examples
