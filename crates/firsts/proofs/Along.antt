@@ -16,7 +16,7 @@ use Rattle.lists.proofs.Bools.{T-of, not-true, and-both}
 use Rattle.lists.proofs.Places.{replicate-at}
 use Rattle.model.specs.Net.{Net, begin, can}
 use Rattle.model.specs.Runs.{runs, Marker, atStart, byEvent, State, marker, orElse, opening, step, after}
-use Rattle.model.specs.Across.{marks, earliest, repeated}
+use Rattle.model.specs.Across.{marksForOthers, ownOrEarliest, repeated}
 use Rattle.model.proofs.Firing.{runs-first, runs-rest, can-event}
 use Rattle.model.proofs.Laws.{marked, First, Reached}
 use Rattle.model.proofs.Copies.{reached-opening, reached-step}
@@ -42,7 +42,7 @@ pub record Along (n : Net) (r : List ℕ) (k : ℕ) (repeat : Repeat) (slots : L
   pub reached : Reached n state
   pub firsts : Tells state slots
   pub seens : Occurred state seen
-  pub repeats : soonest repeat (repeated n (earliest n) k state (drop k r)) ≡ repeated n (earliest n) 0 (opening n) r
+  pub repeats : soonest repeat (repeated n (ownOrEarliest n) k state (drop k r)) ≡ repeated n (ownOrEarliest n) 0 (opening n) r
 
 -- ---- the start
 
@@ -83,12 +83,12 @@ stays n s i e t b = go (s .first b) (n .persistent b) (mem b (n .postconditions 
         (i .held b y (byEvent e) (and-both (s .seen e) (mem b (n .postconditions e)) (T-of (s .seen e) t) (T-of (mem b (n .postconditions e)) z))))
 
 module _ (n : Net) (k : ℕ) (s : State) (e : ℕ) (r : List ℕ) where
-  repeated-here : marks n e && s .seen e ≡ true → repeated n (earliest n) k s (e ∷ r) ≡ some k
-  unfolding repeated earliest
+  repeated-here : marksForOthers n e && s .seen e ≡ true → repeated n (ownOrEarliest n) k s (e ∷ r) ≡ some k
+  unfolding repeated ownOrEarliest
   repeated-here h = rw (h, repeated)
 
-  repeated-later : marks n e && s .seen e ≡ false → repeated n (earliest n) k s (e ∷ r) ≡ repeated n (earliest n) (suc k) (step n s e) r
-  unfolding repeated earliest
+  repeated-later : marksForOthers n e && s .seen e ≡ false → repeated n (ownOrEarliest n) k s (e ∷ r) ≡ repeated n (ownOrEarliest n) (suc k) (step n s e) r
+  unfolding repeated ownOrEarliest
   repeated-later h = rw (h, repeated)
 
 module _ (n : Net) (r : List ℕ) (k : ℕ) (repeat : Repeat) (slots : List Slot) (seen : List ℕ) (a : Along n r k repeat slots seen) (h : k < length r)
@@ -110,7 +110,7 @@ module _ (n : Net) (r : List ℕ) (k : ℕ) (repeat : Repeat) (slots : List Slot
 
   -- what every step does to the state
   stepped : (repeat′ : Repeat) (slots′ : List Slot) (seen′ : List ℕ) → Tells (step n s e) slots′ → Occurred (step n s e) seen′
-      → soonest repeat′ (repeated n (earliest n) (k + 1) (step n s e) (drop (k + 1) r)) ≡ soonest repeat (repeated n (earliest n) k s (e ∷ drop (k + 1) r))
+      → soonest repeat′ (repeated n (ownOrEarliest n) (k + 1) (step n s e) (drop (k + 1) r)) ≡ soonest repeat (repeated n (ownOrEarliest n) k s (e ∷ drop (k + 1) r))
       → Along n r (k + 1) repeat′ slots′ seen′
   unfolding step after
   stepped repeat′ slots′ seen′ f o p =
@@ -122,7 +122,7 @@ module _ (n : Net) (r : List ℕ) (k : ℕ) (repeat : Repeat) (slots : List Slot
         reached = reached-step n s (a .reached) e can-fire;
         firsts = f;
         seens = o;
-        repeats = p ∙ ap (λ (l : List ℕ). soonest repeat (repeated n (earliest n) k s l)) (sym next) ∙ a .repeats;
+        repeats = p ∙ ap (λ (l : List ℕ). soonest repeat (repeated n (ownOrEarliest n) k s l)) (sym next) ∙ a .repeats;
       }
 
   -- an event occurs for the first time
@@ -134,7 +134,7 @@ module _ (n : Net) (r : List ℕ) (k : ℕ) (repeat : Repeat) (slots : List Slot
       stepped repeat slots′ (set seen e 1)
       (record { size = w; each = λ b g. f b g ∙ ap (λ (o : Option Marker). orElse o (marker (n .persistent b) (mem b (n .postconditions e)) (byEvent e))) (a .firsts .each b g) })
       (record { size = length-set seen e 1 ∙ a .seens .size; each = λ x g. go x g (ℕ-discrete x e) })
-      (ap (soonest repeat) (ap (λ (j : ℕ). repeated n (earliest n) j (step n s e) (drop (k + 1) r)) (add-one k) ∙ sym (repeated-later n k s e (drop (k + 1) r) (rw (occurred l false (ne-eqb (getD seen e 0) 1 z), and-false)))))
+      (ap (soonest repeat) (ap (λ (j : ℕ). repeated n (ownOrEarliest n) j (step n s e) (drop (k + 1) r)) (add-one k) ∙ sym (repeated-later n k s e (drop (k + 1) r) (rw (occurred l false (ne-eqb (getD seen e 0) 1 z), and-false)))))
     where
       go : (x : ℕ) → x < 256 → Dec (x ≡ e) → eqb (getD (set seen e 1) x 0) 1 ≡ (eqb x e || s .seen x)
       go x g (yes y) = rw (y, getD-set-same seen e 1 0 (omega (arith, a .seens .size)), eq-eqb e e refl)
@@ -156,17 +156,17 @@ module _ (n : Net) (r : List ℕ) (k : ℕ) (repeat : Repeat) (slots : List Slot
         go x (yes y) = rw (y, was, eq-eqb e e refl)
         go x (no y) = rw (ne-eqb x e y)
 
-    -- an event that marks nothing occurs again
-    pub along-again : marks n e ≡ false → Along n r (k + 1) repeat slots seen
+    -- an event that marks for nobody else occurs again
+    pub along-again : marksForOthers n e ≡ false → Along n r (k + 1) repeat slots seen
     along-again m =
         stepped repeat slots seen same-firsts same-seens
-        (ap (soonest repeat) (ap (λ (j : ℕ). repeated n (earliest n) j (step n s e) (drop (k + 1) r)) (add-one k) ∙ sym (repeated-later n k s e (drop (k + 1) r) (rw m))))
+        (ap (soonest repeat) (ap (λ (j : ℕ). repeated n (ownOrEarliest n) j (step n s e) (drop (k + 1) r)) (add-one k) ∙ sym (repeated-later n k s e (drop (k + 1) r) (rw m))))
 
-    -- an event that marks occurs again
-    pub along-repeat : marks n e ≡ true → (j : ℕ) → j ≡ k → Along n r (k + 1) (sooner repeat j) slots seen
+    -- an event that marks for others occurs again
+    pub along-repeat : marksForOthers n e ≡ true → (j : ℕ) → j ≡ k → Along n r (k + 1) (sooner repeat j) slots seen
     along-repeat m j y =
         stepped (sooner repeat j) slots seen same-firsts same-seens
-        (go repeat (repeated n (earliest n) (k + 1) (step n s e) (drop (k + 1) r)) ∙ ap (soonest repeat) (sym (repeated-here n k s e (drop (k + 1) r) (rw (m, was)))))
+        (go repeat (repeated n (ownOrEarliest n) (k + 1) (step n s e) (drop (k + 1) r)) ∙ ap (soonest repeat) (sym (repeated-here n k s e (drop (k + 1) r) (rw (m, was)))))
       where
         go : (x : Repeat) (o : Option ℕ) → soonest (sooner x j) o ≡ soonest x (some k)
         go Never o = ap some y

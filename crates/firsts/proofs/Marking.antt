@@ -10,7 +10,7 @@ use lib.Dec.{eqb}
 use lib.ListN.{length, set, drop, length-set}
 use lib.Seq.{set-getD, getD-set-same, getD-set-other}
 use borrow.Author.Tests.{eq-eqb, ne-eqb}
-use Rattle.lists.specs.Lists.{mem, any}
+use Rattle.lists.specs.Lists.{mem}
 use Rattle.words.specs.Words.{wordAt, words}
 use Rattle.words.proofs.Laws.{words-next, words-end}
 use Rattle.model.specs.Runs as model
@@ -111,15 +111,6 @@ module _ (s list : List ℕ) (i w : ℕ) (h : 1 < length list - i) (e : w ≡ wo
   unfolding markAll
   all-next slots m = rw (words-next list i h, ← e)
 
-  pub any-here : flagged s w ≡ true → any (flagged s) (words (drop i list)) ≡ true
-  any-here p = rw (words-next list i h, ← e, p)
-
-  pub any-later : flagged s w ≡ false → any (flagged s) (words (drop i list)) ≡ any (flagged s) (words (drop (i + 2) list))
-  any-later p = rw (words-next list i h, ← e, p)
-
 pub all-end : (s list : List ℕ) (i : ℕ) → length list - i ≤ 1 → (slots : List Slot) (m : Marker) → markAll s slots m (words (drop i list)) ≡ slots
 unfolding markAll
 all-end s list i h slots m = rw (words-end list i h)
-
-pub any-end : (s list : List ℕ) (i : ℕ) → length list - i ≤ 1 → any (flagged s) (words (drop i list)) ≡ false
-any-end s list i h = rw (words-end list i h)

@@ -3,12 +3,13 @@ use Prim.Native.Nat.{ℕ, _<_}
 use native.Mathlib.Omega.{arith}
 use mathlib.Core.Path.{_≡_, refl, sym, ap, _∙_}
 use mathlib.Core.Bool.{Bool, true}
-use mathlib.Core.List.{List, [], _∷_}
+use mathlib.Core.List.{List}
+use lib.Dec.{eqb}
 use lib.ListN.{length, getD, length-replicate}
-use Rattle.lists.specs.Lists.{mem, any}
+use Rattle.lists.specs.Lists.{mem}
 use Rattle.words.specs.Words.{words}
 use Rattle.model.specs.Runs.{atStart, byEvent, marker, orElse}
-use Rattle.model.specs.Across.{marks}
+use Rattle.model.specs.Across.{marksForOthers}
 use Rattle.refusal.specs.declared.Marker.the-variants.{Start, ByEvent}
 use Rattle.refusal.specs.declared.Judged.the-variants.{Fine}
 use Rattle.records.specs.Records.{markingPart}
@@ -18,8 +19,8 @@ use Rattle.table.proofs.Decoded.{start-read, events-are-all}
 use Rattle.table.proofs.Sound.{tabled}
 use Rattle.tally.specs.Having.{listPart}
 use Rattle.tally.proofs.Events.{list-read, list-inside}
-use Rattle.colours.specs.Colours.{flagged}
 use Rattle.layout.proofs.Limits.{flags-are}
+use Rattle.repeats.specs.Repeats.{Once}
 use Rattle.firsts.specs.declared.First.the-variants.{Unset}
 use Rattle.firsts.specs.declared.Slot.{Slot}
 use Rattle.firsts.specs.declared.Repeat.{Repeat}
@@ -45,13 +46,16 @@ module _ (s : List ℕ) (events : ℕ) (j : judgeOf s ≡ Fine events) where
     pub start-inside : Inside (words part)
     start-inside b t = let l = tabled s events j .sound .start-in b (rw start-is at t) in omega (arith, tabled s events j .few-conditions)
 
-    module _ (slots : List Slot) (e : slots ≡ markAll s noSlots Start (words part)) where
+    module _ (begun slots : List Slot) (z : begun ≡ noSlots) (e : slots ≡ markAll s begun Start (words part)) where
+      start-all : slots ≡ markAll s noSlots Start (words part)
+      start-all = rw z at e
+
       pub start-length : length slots ≡ 256
-      start-length = ap length e ∙ all-length s noSlots Start (words part) ∙ no-slots-length
+      start-length = ap length start-all ∙ all-length s noSlots Start (words part) ∙ no-slots-length
 
       pub start-first : (b : ℕ) → b < 256 → firstAt slots b ≡ marker (netOf s .persistent b) (mem b (netOf s .start)) atStart
       start-first b h =
-          ap (λ (x : List Slot). firstAt x b) e
+          ap (λ (x : List Slot). firstAt x b) start-all
           ∙ all-first s noSlots Start (words part) b (omega (arith, no-slots-length))
           ∙ rw (none-set b, flags-are s events j b, start-is)
 
@@ -63,14 +67,6 @@ module _ (s : List ℕ) (events : ℕ) (j : judgeOf s ≡ Fine events) where
 
     pub post-inside : Inside (words post)
     post-inside b t = list-inside s e h true b (rw post-is at t)
-
-    pub post-marks : {r : Bool} → r ≡ any (flagged s) (words post) → marks (netOf s) e ≡ r
-    unfolding marks
-    post-marks t = sym (t ∙ any-same (words post) ∙ ap (any (netOf s .persistent)) post-is)
-      where
-        any-same : (l : List ℕ) → any (flagged s) l ≡ any (netOf s .persistent) l
-        any-same [] = refl
-        any-same (b ∷ l) = rw (flags-are s events j b, any-same l)
 
     module _ (slots slots′ : List Slot) (w : length slots ≡ 256) (z : slots′ ≡ markAll s slots (ByEvent (record { 0 = e })) (words post)) where
       pub post-length : length slots′ ≡ 256
@@ -97,3 +93,10 @@ module _ (s : List ℕ) (events : ℕ) (offsets r : List ℕ) (w : Walkable s ev
 
   pub step-offset : getD offsets (getD r k 0) 0 ≡ offsetOf s (getD r k 0)
   step-offset = w .indexed .each (getD r k 0) (omega (arith, step-event, events-are-all s events (w .judged)))
+
+  module _ (once : List ℕ) (o : Once (netOf s) once) where
+    pub step-once : getD r k 0 < length once
+    step-once = omega (arith, step-low, o .size)
+
+    pub step-others : (t : Bool) → eqb (getD once (getD r k 0) 0) 1 ≡ t → marksForOthers (netOf s) (getD r k 0) ≡ t
+    step-others t z = sym (o .each (getD r k 0) step-event) ∙ z

@@ -6,7 +6,7 @@ use lib.Dec.{T, eqb}
 use lib.ListN.{length, getD}
 use Rattle.model.specs.Net.{Net, begin}
 use Rattle.model.specs.Runs.{runs, State, opening, after}
-use Rattle.model.specs.Across.{earliest, repeated}
+use Rattle.model.specs.Across.{ownOrEarliest, repeated}
 use Rattle.refusal.specs.declared.Judged.the-variants.{Fine}
 use Rattle.table.specs.Walk.{judgeOf}
 use Rattle.table.specs.Decoded.{netOf}
@@ -32,8 +32,8 @@ pub record Occurred (t : State) (seen : List ℕ) : Type 0 where
   pub each : (e : ℕ) → e < 256 → eqb (getD seen e 0) 1 ≡ t .seen e
 
 -- What a walk along a run tells: the first markers at its end, the events that occurred, and the first repeat (01, Runs across and
--- Refusal numbers).
+-- Refusal numbers; 02, No. 3).
 pub record Walks (n : Net) (r : List ℕ) (w : Walked) (seen : List ℕ) : Type 0 where
   pub firsts : Tells (after n (opening n) r) (w .firsts .slots)
   pub seens : Occurred (after n (opening n) r) seen
-  pub repeat : repeatOf (w .repeat) ≡ repeated n (earliest n) 0 (opening n) r
+  pub repeat : repeatOf (w .repeat) ≡ repeated n (ownOrEarliest n) 0 (opening n) r

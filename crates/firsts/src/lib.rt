@@ -4,10 +4,9 @@ use refusal::TableEvent;
 ghost use mathlib.Core.Path.{_≡_};
 ghost use Prim.Native.Nat.{_<_};
 ghost use lib.ListN.{replicate};
-ghost use Rattle.lists.specs.Lists.{any};
 ghost use Rattle.words.specs.Words.{words};
 ghost use Rattle.table.specs.Decoded.{netOf};
-ghost use Rattle.colours.specs.Colours.{flagged};
+ghost use Rattle.repeats.specs.Repeats.{Once};
 ghost use Rattle.firsts.specs.Firsts.{Inside, noSlots, markOne, markAll, sooner};
 ghost use Rattle.firsts.specs.Walks.{Walkable, Walks};
 
@@ -25,7 +24,7 @@ pub struct Firsts {
     pub slots: [Slot; 256],
 }
 
-// Whether an event that marks came again, and at which step first.
+// Whether an event that marks for others came again, and at which step first.
 pub enum Repeat {
     Never,
     At(usize),
@@ -76,20 +75,6 @@ fn marked<'a>(firsts: Firsts, table: &'a [u8], list: &'a [u8], m: Marker) -> Fir
     next
 }
 
-// Whether one of a list's conditions is persistent.
-fn marks<'a>(table: &'a [u8], list: &'a [u8]) -> bool
-    ensures { λ r. ⌜ r ≡ any (flagged (now (table .entry))) (words (now (list .entry))) ⌝ }
-{
-    let mut i: usize = 0;
-    while 1 < list.len() - i {
-        if colours::is_persistent(table, words::word(list, i) as usize) {
-            return true;
-        }
-        i = i + 2;
-    }
-    false
-}
-
 // The sooner of a repeat, if there was one, and this step.
 fn at_latest(repeat: Repeat, step: usize) -> Repeat
     ensures { λ r. ⌜ r ≡ sooner repeat step ⌝ }
@@ -100,15 +85,18 @@ fn at_latest(repeat: Repeat, step: usize) -> Repeat
     }
 }
 
-// A run of a judged table, walked once: an event marks when it first occurs, and marks nothing new later.
+// A run of a judged table, walked once: an event marks when it first occurs; a later occurrence marks nothing new, and is a repeat if
+// the event marks for others.
 pub fn walk<'a>(
     table: &'a [u8],
     events: usize,
     offsets: &'a [usize],
+    once: &'a [u8],
     run: &'a [u16],
     seen: &mut [u8],
 ) -> Walked
     requires { ⌜ Walkable (now table) events (now offsets) (now run) ⌝ }
+    requires { ⌜ Once (netOf (now table)) (now once) ⌝ }
     requires { ⌜ now seen ≡ replicate 256 0 ⌝ }
     ensures { λ r. ⌜ Walks (netOf (now (table .entry))) (now (run .entry)) r (now (seen .exit)) ⌝ }
 {
@@ -118,14 +106,14 @@ pub fn walk<'a>(
     let mut k: usize = 0;
     while k < run.len() {
         let e = run[k];
-        let post = tally::list_at(table, offsets[e as usize], true);
         k = k + 1;
         if seen[e as usize] == 1 {
-            if marks(table, post) {
+            if once[e as usize] == 1 {
                 repeat = at_latest(repeat, k - 1);
             }
         } else {
             seen[e as usize] = 1;
+            let post = tally::list_at(table, offsets[e as usize], true);
             firsts = marked(firsts, table, post, Marker::ByEvent(TableEvent(e)));
         }
     }

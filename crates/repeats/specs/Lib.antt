@@ -1,0 +1,2 @@
+-- The definitions, in reading order.
+pub mod Repeats
