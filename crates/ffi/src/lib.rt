@@ -292,7 +292,7 @@ pub extern "C" fn dovetrellis_unfolded_fire(
     outward::told(firing::unfolded_fire(table, marking, UnfoldedEvent(unfolded)))
 }
 
-// A run lifted by its earliest markers.
+// A run lifted to one of the unfolding.
 #[no_mangle]
 pub extern "C" fn dovetrellis_lift<'a>(table: &'a [u8], run: &'a [u16], out: &mut [u16]) -> Answer
     ensures answer { λ r. ⌜ r ≡ answerOf (liftOf (now (table .entry)) (now (run .entry)) (length (now (out .entry)))) ⌝ }

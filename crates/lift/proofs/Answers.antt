@@ -1,20 +1,16 @@
--- What the lift answers once its table is laid out, its run played and its first markers known.
-use Prim.Native.Nat.{ℕ, _+_, _≤_, _<_}
+-- What the lift answers once its table is laid out, its run played, and the numbers of first and of later occurrences known.
+use Prim.Native.Nat.{ℕ, suc, _≤_, _<_}
 use native.Mathlib.Omega.{arith}
-use mathlib.Core.Path.{_≡_, refl, sym, ap, _∙_, subst}
-use mathlib.Core.Option.{Option, none, some}
-use mathlib.Core.List.{List, map, _++_}
+use mathlib.Core.Path.{_≡_, refl, sym, ap, _∙_}
+use mathlib.Core.Option.{Option, none}
+use mathlib.Core.List.{List, [], _∷_, _++_}
 use lib.Dec.{T}
-use lib.ListN.{length, getD, drop, length-map}
-use Rattle.lists.specs.Lists.{sum, _∈_}
-use Rattle.lists.proofs.Members.{in-mem, keep-out, map-same}
-use Rattle.model.specs.Net.{Net, Marking, begin}
-use Rattle.model.specs.Runs.{runs, Marker, State, opening, after, replay}
-use Rattle.model.specs.Unfolding.{markers, reads}
-use Rattle.model.specs.Numbering.{number, radix, size}
-use Rattle.model.specs.Across.{ofTable, Refusal, Answer, run, unless, stuck, tooLong, unfoldingRefused, orStart, earliest, coloured, lifted, repeated, again, lifting, lift}
+use lib.ListN.{length, getD, drop}
+use Rattle.model.specs.Net.{Net, begin}
+use Rattle.model.specs.Runs.{runs, State, opening, step, replay}
+use Rattle.model.specs.Across.{ofTable, Refusal, Answer, run, unless, stuck, tooLong, unfoldingRefused, Lifting, ownOrEarliest, lifted, repeated, again, lifting, lift}
 use Rattle.model.proofs.Answers.{not-stuck, stuck-none, run-lifting}
-use Rattle.model.proofs.Firing.{runs-events, runs-event}
+use Rattle.model.proofs.Firing.{runs-event}
 use Rattle.refusal.specs.declared.Refusal as declared
 use Rattle.refusal.specs.declared.Judged.{Judged}
 use Rattle.refusal.specs.declared.Judged.the-variants.{Fine, Refused}
@@ -27,22 +23,27 @@ use Rattle.table.specs.Links.{refusedOr}
 use Rattle.table.proofs.Sound.{tabled}
 use Rattle.table.proofs.Links.{links-open, links-refused}
 use Rattle.table.proofs.Decoded.{events-are-all}
+use Rattle.layout.specs.Laid.{Laid}
 use Rattle.played.specs.Begun.{begunAt}
 use Rattle.played.specs.Played.{Plays}
 use Rattle.across.specs.Calls.{fitted, numbersOf, acrossOf}
 use Rattle.across.specs.Prepared.{preparedOf}
 use Rattle.across.proofs.Prefix.{across-passed, across-on, across-judged, fitted-link, fitted-across}
+use Rattle.repeats.specs.Repeats.{Used}
 use Rattle.firsts.specs.declared.Slot.{Slot}
-use Rattle.firsts.specs.Firsts.{firstAt}
-use Rattle.firsts.specs.Walks.{Tells}
-use Rattle.places.specs.Places as places
+use Rattle.firsts.specs.declared.Repeat.the-variants.{Never, At}
+use Rattle.firsts.specs.declared.Walked.{Walked}
+use Rattle.firsts.specs.Firsts.{repeatOf}
+use Rattle.firsts.specs.Walks.{Walks}
+use Rattle.later.specs.Later.{Later}
 use Rattle.places.specs.Numbers as numbers
 use Rattle.lift.specs.Calls.{liftOf, liftedOf}
-use Rattle.lift.specs.Played.{Writing}
-use Rattle.lift.proofs.Settled.{reachedEnd, end-reached, lifted-is, pick-marks, number-settled}
+use Rattle.lift.specs.Played.{numbersFor, TwoBytes, Writing}
+use Rattle.lift.proofs.Settled.{lifted-is}
+use Rattle.lift.proofs.Written.{numbers-long}
 
 abbrev pub liftingOf : Net → List ℕ → Answer
-liftingOf n r = lifting n (earliest n) 0 (opening n) r
+liftingOf n r = lifting n (ownOrEarliest n) 0 (opening n) r
 
 -- ---- the prefix, then the run
 
@@ -88,7 +89,7 @@ module _ (s r : List ℕ) (answer : Judged) (l : List ℕ) (p : Plays (netOf s) 
   unfolding lifting
   lift-stopped room {x} z o t =
       let st = stuck ofTable (replay (netOf s) 0 (opening (netOf s)) r) in
-      let a = unless (again (repeated (netOf s) (earliest (netOf s)) 0 (opening (netOf s)) r)) (run (lifted (netOf s) (earliest (netOf s)) (opening (netOf s)) r)) in
+      let a = unless (again (repeated (netOf s) (ownOrEarliest (netOf s)) 0 (opening (netOf s)) r)) (run (lifted (netOf s) (ownOrEarliest (netOf s)) (opening (netOf s)) r)) in
       told ∙ links-refused (tooLong r) st (netOf s .conditions) (fitted a room) x (sym told ∙ t)
       ∙ ap (λ (y : Option Refusal). refusedOr y (refusedOr st (fitted a room))) (across-open s r z .0)
       ∙ sym (fitted-link st a room) ∙ sym (lift-across s r room ∙ o)
@@ -100,72 +101,55 @@ module _ (s r : List ℕ) (answer : Judged) (l : List ℕ) (p : Plays (netOf s) 
 
 -- ---- a run lifted
 
-module _ (n : Net) (r : List ℕ) (t : T (runs n (begin n) r)) (room : ℕ) where
-  plays : stuck ofTable (replay n 0 (opening n) r) ≡ none
-  unfolding opening
-  plays = stuck-none ofTable n 0 (opening n) r t
+lifted-long : (n : Net) (l : Lifting) (s : State) (r : List ℕ) → length (lifted n l s r) ≡ length r
+unfolding lifted
+lifted-long n l s [] = refl
+lifted-long n l s (e ∷ r) = ap suc (lifted-long n l (step n s e) r)
 
-  -- 15
-  pub lift-again : (k : ℕ) → some k ≡ repeated n (earliest n) 0 (opening n) r → refusedAt 15 k ≡ fitted (liftingOf n r) room
-  unfolding lifting fitted
-  lift-again k q = rw (plays, ← q)
+module _ (n : Net) (r : List ℕ) (t : T (runs n (begin n) r)) where
+  two-bytes : (slots : List Slot) (ns : List ℕ) → numbers.Settled n slots ns → TwoBytes ns r
+  two-bytes slots ns g = record { long = g .long; few = λ k l. g .few (getD r k 0) (runs-event n (begin n) r k t l) }
 
-  module _ (q : none ≡ repeated n (earliest n) 0 (opening n) r) where
-    goes : liftingOf n r ≡ run (lifted n (earliest n) (opening n) r)
-    unfolding opening
-    goes = run-lifting n (earliest n) 0 (opening n) r t (sym q)
+  pub writing : (slots later : List Slot) (ns ms : List ℕ) → numbers.Settled n slots ns → numbers.Settled n later ms → Tabled n → (room : ℕ) → length r ≤ room
+      → Writing ms ns r room
+  writing slots later ns ms g d limits room h =
+      record {
+        room-for = h;
+        known = λ k l. omega (arith, runs-event n (begin n) r k t l, limits .few-events);
+        first = two-bytes slots ns g;
+        again = two-bytes later ms d;
+      }
 
-    long : length (lifted n (earliest n) (opening n) r) ≡ length r
-    long = ap length (lifted-is n r t) ∙ length-map r (λ e. number n (coloured n (earliest n) (reachedEnd n r t) e))
+  module _ (w : Walked) (seen : List ℕ) (told : Walks n r w seen) where
+    -- 15
+    pub lift-again : (room k : ℕ) → w .repeat ≡ At k → refusedAt 15 k ≡ fitted (liftingOf n r) room
+    unfolding lifting fitted opening
+    lift-again room k z = rw (stuck-none ofTable n 0 (opening n) r t, ← told .repeat, z)
 
-    fits : fitted (liftingOf n r) room ≡ fitting (length r) room
-    unfolding fitted
-    fits = ap (λ (a : Answer). fitted a room) goes ∙ ap (λ (k : ℕ). fitting k room) long
+    module _ (z : w .repeat ≡ Never) where
+      never : repeated n (ownOrEarliest n) 0 (opening n) r ≡ none
+      never = sym (told .repeat) ∙ ap repeatOf z
 
-    -- 16
-    pub lift-short : room < length r → refusedAt 16 (length r) ≡ fitted (liftingOf n r) room
-    lift-short h = sym (fits ∙ fitting-short (length r) room h)
+      goes : liftingOf n r ≡ run (lifted n (ownOrEarliest n) (opening n) r)
+      unfolding opening
+      goes = run-lifting n (ownOrEarliest n) 0 (opening n) r t never
 
-    pub lift-fits : length r ≤ room → Fine (length r) ≡ fitted (liftingOf n r) room
-    lift-fits h = sym (fits ∙ fitting-room (length r) room h)
+      fits : (room : ℕ) → fitted (liftingOf n r) room ≡ fitting (length r) room
+      unfolding fitted
+      fits room = ap (λ (a : Answer). fitted a room) goes ∙ ap (λ (k : ℕ). fitting k room) (lifted-long n (ownOrEarliest n) (opening n) r)
 
-  -- ---- by the first markers that were told
-  module _ (slots : List Slot) (f : Tells (after n (opening n) r) slots) (limits : Tabled n) where
-    pub marking : places.Marking n slots
-    marking b h p = subst (λ (o : Option Marker). orStart o ∈ markers n b) (sym (f .each b h)) (pick-marks n (reachedEnd n r t) (end-reached n r t) b p)
+      -- 16
+      pub lift-short : (room : ℕ) → room < length r → refusedAt 16 (length r) ≡ fitted (liftingOf n r) room
+      lift-short room h = sym (fits room ∙ fitting-short (length r) room h)
 
-    module _ (ns : List ℕ) (g : numbers.Settled n slots ns) where
-      step-event : (k : ℕ) → k < length r → getD r k 0 < n .events
-      step-event k h = runs-event n (begin n) r k t h
+      pub lift-fits : (room : ℕ) → length r ≤ room → Fine (length r) ≡ fitted (liftingOf n r) room
+      lift-fits room h = sym (fits room ∙ fitting-room (length r) room h)
 
-      pub writing : length r ≤ room → Writing ns r room
-      writing h =
-          record {
-            room-for = h;
-            long = g .long;
-            known = λ k l. omega (arith, step-event k l, limits .few-events);
-            few = λ k l. g .few (getD r k 0) (step-event k l);
-          }
-
-      number-told : (e : ℕ) → e ∈ r → number n (coloured n (earliest n) (reachedEnd n r t) e) ≡ getD ns e 0
-      unfolding reads
-      number-told e i =
-          let h = runs-events n (begin n) r t e i in
-          number-settled n (reachedEnd n r t) (end-reached n r t) e h
-          ∙ ap (λ (c : List Marker). sum (size n) e + radix (map (markers n) (reads n e)) c)
-          (map-same (λ b. orStart (reachedEnd n r t .first b)) (λ b. orStart (firstAt slots b)) (reads n e)
-          (λ b j.
-          let k = keep-out (n .persistent) (n .preconditions e) j in
-          let low = limits .sound .pre-in e b h (in-mem (k .0)) in
-          ap orStart (sym (f .each b (omega (arith, limits .few-conditions))))))
-          ∙ sym (g .each e h)
-
-      pub lift-written : (q : none ≡ repeated n (earliest n) 0 (opening n) r) (out out′ : List ℕ) → out′ ≡ map (λ e. getD ns e 0) r ++ drop (length r) out
-          → out′ ≡ written (Fine (length r)) (numbersOf (liftingOf n r)) out
-      lift-written q out out′ w =
-          let same : numbersOf (liftingOf n r) ≡ map (λ e. getD ns e 0) r
-          = ap numbersOf (goes q) ∙ lifted-is n r t ∙ map-same (λ e. number n (coloured n (earliest n) (reachedEnd n r t) e)) (λ e. getD ns e 0) r number-told in
-          w ∙ ap (λ (k : ℕ). map (λ e. getD ns e 0) r ++ drop k out) (sym (length-map r (λ e. getD ns e 0))) ∙ ap (λ (x : List ℕ). x ++ drop (length x) out) (sym same)
+      pub lift-written : (later : List Slot) → Later n (w .firsts .slots) later → (ns ms : List ℕ) → numbers.Settled n (w .firsts .slots) ns → numbers.Settled n later ms → Tabled n
+          → (out out′ : List ℕ) → out′ ≡ numbersFor ms ns r ++ drop (length r) out → out′ ≡ written (Fine (length r)) (numbersOf (liftingOf n r)) out
+      lift-written later l ns ms g d limits out out′ e =
+          let same : numbersOf (liftingOf n r) ≡ numbersFor ms ns r = ap numbersOf goes ∙ lifted-is n r t (w .firsts .slots) (told .firsts) never limits later l ns ms g d in
+          e ∙ ap (λ (k : ℕ). numbersFor ms ns r ++ drop k out) (sym (numbers-long ms ns r)) ∙ ap (λ (x : List ℕ). x ++ drop (length x) out) (sym same)
 
 -- ---- the table that was laid out
 
@@ -186,3 +170,6 @@ pub laid-refused : (s r out : List ℕ) {a : Judged} {x : declared.Refusal} → 
 laid-refused s r out e t =
     lift-refused s r out t
     (across-passed s (length r) (netOf s .events) e r refl (fitted (liftingOf (netOf s) r) (length out)) t ∙ sym (lift-across s r (length out)))
+
+pub laid-used : {s markers users bases : List ℕ} → Laid s markers users bases → Used s users
+laid-used l = record { limits = l .counted .marked .limits; flags = l .counted .marked .flags; uses = l .counted .uses }

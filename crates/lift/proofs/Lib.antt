@@ -1,3 +1,4 @@
+pub mod Later
 pub mod Settled
 pub mod Written
 pub mod Answers

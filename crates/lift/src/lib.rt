@@ -1,25 +1,28 @@
-// The lift of a run of a table: each of its events becomes the unfolded event that the first markers pick; the call stands at the end.
+// The lift of a run of a table: each step's event becomes an unfolded event by what it picks, on a first occurrence or on a later one;
+// the call stands at the end.
 use firsts::Repeat;
 use refusal::Judged;
 ghost use mathlib.Core.Path.{_≡_};
-ghost use mathlib.Core.List.{map, _++_};
-ghost use lib.ListN.{length, getD, drop};
+ghost use mathlib.Core.List.{_++_};
+ghost use lib.ListN.{length, drop};
 ghost use Rattle.model.specs.Runs.{opening};
-ghost use Rattle.model.specs.Across.{earliest, lifting};
+ghost use Rattle.model.specs.Across.{ownOrEarliest, lifting};
 ghost use Rattle.table.specs.Decoded.{netOf};
 ghost use Rattle.refusal.specs.Answer.{written};
 ghost use Rattle.across.specs.Calls.{fitted, numbersOf};
 ghost use Rattle.lift.specs.Calls.{liftOf, liftedOf};
-ghost use Rattle.lift.specs.Played.{Writing, Liftable};
+ghost use Rattle.lift.specs.Played.{numbersFor, Writing, Liftable};
 
-// The number of each step's event, over the first numbers of a lent output.
-fn write_lifted<'a>(numbers: &'a [u32], run: &'a [u16], out: &mut [u16])
-    requires { ⌜ Writing (now numbers) (now run) (length (now out)) ⌝ }
-    ensures { λ _. ⌜ now (out .exit) ≡ map (λ e. getD (now (numbers .entry)) e 0) (now (run .entry)) ++ drop (length (now (run .entry))) (now (out .entry)) ⌝ }
+// The number of each step's event, to the front of a lent output: that of its first occurrence, and from then on the later one.
+fn write_lifted<'a>(later: &'a [u32], run: &'a [u16], numbers: &mut [u32], out: &mut [u16])
+    requires { ⌜ Writing (now later) (now numbers) (now run) (length (now out)) ⌝ }
+    ensures { λ _. ⌜ now (out .exit) ≡ numbersFor (now (later .entry)) (now (numbers .entry)) (now (run .entry)) ++ drop (length (now (run .entry))) (now (out .entry)) ⌝ }
 {
     let mut k: usize = 0;
     while k < run.len() {
-        out[k] = numbers[run[k] as usize] as u16;
+        let e = run[k] as usize;
+        out[k] = numbers[e] as u16;
+        numbers[e] = later[e];
         k = k + 1;
     }
 }
@@ -29,17 +32,20 @@ fn lift_played<'a>(
     table: &'a [u8],
     events: usize,
     markers: &'a [u32],
+    users: &'a [u32],
     before: &'a [u32],
     offsets: &'a [usize],
     run: &'a [u16],
     out: &mut [u16],
 ) -> Judged
-    requires { ⌜ Liftable (now table) events (now markers) (now before) (now offsets) (now run) ⌝ }
-    ensures answer { λ r. ⌜ r ≡ fitted (lifting (netOf (now (table .entry))) (earliest (netOf (now (table .entry)))) 0 (opening (netOf (now (table .entry)))) (now (run .entry))) (length (now (out .entry))) ⌝ }
-    ensures after { λ r. ⌜ now (out .exit) ≡ written r (numbersOf (lifting (netOf (now (table .entry))) (earliest (netOf (now (table .entry)))) 0 (opening (netOf (now (table .entry)))) (now (run .entry)))) (now (out .entry)) ⌝ }
+    requires { ⌜ Liftable (now table) events (now markers) (now users) (now before) (now offsets) (now run) ⌝ }
+    ensures answer { λ r. ⌜ r ≡ fitted (lifting (netOf (now (table .entry))) (ownOrEarliest (netOf (now (table .entry)))) 0 (opening (netOf (now (table .entry)))) (now (run .entry))) (length (now (out .entry))) ⌝ }
+    ensures after { λ r. ⌜ now (out .exit) ≡ written r (numbersOf (lifting (netOf (now (table .entry))) (ownOrEarliest (netOf (now (table .entry)))) 0 (opening (netOf (now (table .entry)))) (now (run .entry)))) (now (out .entry)) ⌝ }
 {
+    let mut once = [0u8; 256];
+    repeats::once_only(table, events, users, &mut once);
     let mut seen = [0u8; 256];
-    let walked = firsts::walk(table, events, offsets, run, &mut seen);
+    let walked = firsts::walk(table, events, offsets, &once, run, &mut seen);
     let repeat = walked.repeat;
     if let Repeat::At(k) = repeat {
         return refusal::refused(15, k);
@@ -50,7 +56,10 @@ fn lift_played<'a>(
     let firsts = walked.firsts;
     let mut numbers = [0u32; 256];
     places::settled_numbers(table, events, markers, before, firsts, &mut numbers);
-    write_lifted(&numbers, run, out);
+    let own = later::own_markers(table, events, users, firsts);
+    let mut later = [0u32; 256];
+    places::settled_numbers(table, events, markers, before, own, &mut later);
+    write_lifted(&later, run, &mut numbers, out);
     Judged::Fine(run.len())
 }
 
@@ -82,5 +91,5 @@ pub fn lift<'a>(table: &'a [u8], run: &'a [u16], out: &mut [u16]) -> Judged
     let Judged::Fine(_) = played else {
         return played;
     };
-    lift_played(table, events, &markers, &before, &offsets, run, out)
+    lift_played(table, events, &markers, &users, &before, &offsets, run, out)
 }

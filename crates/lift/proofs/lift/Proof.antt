@@ -6,7 +6,7 @@ use Rattle.table.specs.Decoded.{netOf}
 use Rattle.played.proofs.Begun.{begun-lent, begun-room, begun-plays}
 use Rattle.unfolding.proofs.Owners.{within-laid}
 use Rattle.across.specs.Calls.{fitted}
-use Rattle.lift.proofs.Answers.{liftingOf, lift-refused, lift-went, lift-stopped, lift-runs, laid-open, laid-events, laid-judged, laid-few, laid-refused}
+use Rattle.lift.proofs.Answers.{liftingOf, lift-refused, lift-went, lift-stopped, lift-runs, laid-open, laid-events, laid-judged, laid-few, laid-refused, laid-used}
 use borrow.Author.Needs.{needs}
 use Rattle.lift.proofs.lift.Statement.{statement}
 use Rattle.lift.proofs.lift.Tie as tie
@@ -41,19 +41,19 @@ returns-2 c =
 
 lift-played-requires : tie.Need-lift-played-requires
 lift-played-requires c κs =
-    let s = c .before .before .before .before .before .before .before .before .before .before .before .before .before .before .before .before .before .before .before .before .before .before .before .before .before .before .before .before .before .before .before .args .table .now in
-    let r = c .before .before .before .before .before .before .before .before .before .before .before .before .before .before .before .before .before .before .before .before .before .before .before .before .before .before .before .before .before .before .before .args .run .now in
-    let j = laid-judged s r (c .before .before .before .before .before .before .before .before .before .before .before .before .before .before .before .before .before .before .before .before .before .before .before .lay-out-run .ensures .answer) (c .before .before .before .before .before .before .before .before .before .before .before .before .before .before .before .before .before .laid .given .1) in
-    let p = begun-plays _ _ j _ (c .before .before .before .before .before .before .before .before .before .before .before .start .ensures) _ _ _ (c .before .before .before .before .before .before .before .play .ensures) in
-    let ready = c .before .before .before .before .before .before .before .before .before .before .before .before .before .before .before .before .before .before .before .before .before .before .before .lay-out-run .ensures .ready _ (c .before .before .before .before .before .before .before .before .before .before .before .before .before .before .before .before .before .laid .given .1) in
-    record { within = within-laid _ _ _ _ _ (ready .laid) (laid-events s r (c .before .before .before .before .before .before .before .before .before .before .before .before .before .before .before .before .before .before .before .before .before .before .before .lay-out-run .ensures .answer) (c .before .before .before .before .before .before .before .before .before .before .before .before .before .before .before .before .before .laid .given .1)); sizes = ready .sizes; walkable = record { judged = j; indexed = c .before .before .before .before .before .before .before .before .before .before .before .before .before .before .fill .ensures; plays = lift-runs s r _ _ p _ (c .before .before .before .before .enum-told2 .given .1) } }
+    let s = c .before .before .before .before .before .before .before .before .before .before .before .before .before .before .before .before .before .before .before .before .before .before .before .before .before .before .before .before .before .before .before .before .args .table .now in
+    let r = c .before .before .before .before .before .before .before .before .before .before .before .before .before .before .before .before .before .before .before .before .before .before .before .before .before .before .before .before .before .before .before .before .args .run .now in
+    let j = laid-judged s r (c .before .before .before .before .before .before .before .before .before .before .before .before .before .before .before .before .before .before .before .before .before .before .before .before .lay-out-run .ensures .answer) (c .before .before .before .before .before .before .before .before .before .before .before .before .before .before .before .before .before .before .laid .given .1) in
+    let p = begun-plays _ _ j _ (c .before .before .before .before .before .before .before .before .before .before .before .before .start .ensures) _ _ _ (c .before .before .before .before .before .before .before .before .play .ensures) in
+    let ready = c .before .before .before .before .before .before .before .before .before .before .before .before .before .before .before .before .before .before .before .before .before .before .before .before .lay-out-run .ensures .ready _ (c .before .before .before .before .before .before .before .before .before .before .before .before .before .before .before .before .before .before .laid .given .1) in
+    record { within = within-laid _ _ _ _ _ (ready .laid) (laid-events s r (c .before .before .before .before .before .before .before .before .before .before .before .before .before .before .before .before .before .before .before .before .before .before .before .before .lay-out-run .ensures .answer) (c .before .before .before .before .before .before .before .before .before .before .before .before .before .before .before .before .before .before .laid .given .1)); used = laid-used (ready .laid); sizes = ready .sizes; walkable = record { judged = j; indexed = c .before .before .before .before .before .before .before .before .before .before .before .before .before .before .before .fill .ensures; plays = lift-runs s r _ _ p _ (c .before .before .before .before .before .enum-told2 .given .1) } }
 
 returns-3 : tie.Need-returns-3
 returns-3 c =
-    let s = c .before .before .before .before .before .before .before .before .before .before .before .before .before .before .before .before .before .before .before .before .before .before .before .before .before .before .before .before .before .before .before .before .before .before .args .table .now in
-    let r = c .before .before .before .before .before .before .before .before .before .before .before .before .before .before .before .before .before .before .before .before .before .before .before .before .before .before .before .before .before .before .before .before .before .before .args .run .now in
-    let go = laid-open s r (c .before .before .before .before .before .before .before .before .before .before .before .before .before .before .before .before .before .before .before .before .before .before .before .before .before .before .lay-out-run .ensures .answer) (c .before .before .before .before .before .before .before .before .before .before .before .before .before .before .before .before .before .before .before .before .laid .given .1) in
-    lift-went s r (c .before .before .before .before .before .before .before .before .before .before .before .before .before .before .before .before .before .before .before .before .before .before .before .before .before .before .before .before .before .before .before .before .before .before .args .out .now) _ (go (Fine 0)) (go (fitted (liftingOf (netOf s) r) (length (c .before .before .before .before .before .before .before .before .before .before .before .before .before .before .before .before .before .before .before .before .before .before .before .before .before .before .before .before .before .before .before .before .before .before .args .out .now)))) (c .before .before .lift-played .ensures .0) (c .before .before .lift-played .ensures .1)
+    let s = c .before .before .before .before .before .before .before .before .before .before .before .before .before .before .before .before .before .before .before .before .before .before .before .before .before .before .before .before .before .before .before .before .before .before .before .args .table .now in
+    let r = c .before .before .before .before .before .before .before .before .before .before .before .before .before .before .before .before .before .before .before .before .before .before .before .before .before .before .before .before .before .before .before .before .before .before .before .args .run .now in
+    let go = laid-open s r (c .before .before .before .before .before .before .before .before .before .before .before .before .before .before .before .before .before .before .before .before .before .before .before .before .before .before .before .lay-out-run .ensures .answer) (c .before .before .before .before .before .before .before .before .before .before .before .before .before .before .before .before .before .before .before .before .before .laid .given .1) in
+    lift-went s r (c .before .before .before .before .before .before .before .before .before .before .before .before .before .before .before .before .before .before .before .before .before .before .before .before .before .before .before .before .before .before .before .before .before .before .before .args .out .now) _ (go (Fine 0)) (go (fitted (liftingOf (netOf s) r) (length (c .before .before .before .before .before .before .before .before .before .before .before .before .before .before .before .before .before .before .before .before .before .before .before .before .before .before .before .before .before .before .before .before .before .before .before .args .out .now)))) (c .before .before .lift-played .ensures .0) (c .before .before .lift-played .ensures .1)
 
 pub lift-spec : {M : Type 1} → statement M
 lift-spec =
@@ -77,6 +77,7 @@ lift-spec =
     (λ c. search needs)
     (λ c. search needs)
     returns-2
+    (λ c. search needs)
     (λ c. search needs)
     (λ c. search needs)
     (λ c. search needs)
