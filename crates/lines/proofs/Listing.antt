@@ -9,7 +9,7 @@ use Rattle.model.specs.Runs.{runs, end, opening, replay}
 use Rattle.model.specs.Unfolding.{basic}
 use mathlib.Core.Option.{none}
 use Rattle.model.specs.Across as across
-use Rattle.model.specs.Across.{ofTable, ofUnfolding, stopped, other, numberOf, placeOf, byOf, Answer, run, refusal, unless, stuck, mostSteps, mostUnfolded, tooLong, unfoldingRefused, earliest, repeated, again, lifted, lifting, lift}
+use Rattle.model.specs.Across.{ofTable, ofUnfolding, stopped, other, numberOf, placeOf, byOf, Answer, run, refusal, unless, stuck, mostSteps, mostUnfolded, tooLong, unfoldingRefused, ownOrEarliest, repeated, again, lifted, lifting, lift}
 use Rattle.model.proofs.Answers.{unless-run, not-stuck}
 use Rattle.model.proofs.Limits.{unfolds-exactly, within-exactly}
 use Rattle.model.proofs.Demands.{lift-project, lift-lifts, lift-length, lift-most}
@@ -38,12 +38,12 @@ use Rattle.lines.proofs.Whole.{start-text}
 
 -- What a lift that is a run tells of the run and of the limits.
 module _ (n : Net) (r w : List ℕ) (a : lift n r ≡ run w) where
-  after-length : (tooLong r ≡ none) × (unless (unfoldingRefused n) (lifting n (earliest n) 0 (opening n) r) ≡ run w)
+  after-length : (tooLong r ≡ none) × (unless (unfoldingRefused n) (lifting n (ownOrEarliest n) 0 (opening n) r) ≡ run w)
   unfolding lift
-  after-length = unless-run (tooLong r) (unless (unfoldingRefused n) (lifting n (earliest n) 0 (opening n) r)) w a
+  after-length = unless-run (tooLong r) (unless (unfoldingRefused n) (lifting n (ownOrEarliest n) 0 (opening n) r)) w a
 
-  after-limits : (unfoldingRefused n ≡ none) × (lifting n (earliest n) 0 (opening n) r ≡ run w)
-  after-limits = unless-run (unfoldingRefused n) (lifting n (earliest n) 0 (opening n) r) w (after-length .1)
+  after-limits : (unfoldingRefused n ≡ none) × (lifting n (ownOrEarliest n) 0 (opening n) r ≡ run w)
+  after-limits = unless-run (unfoldingRefused n) (lifting n (ownOrEarliest n) 0 (opening n) r) w (after-length .1)
 
   few-unfolded : basic n .conditions ≤ mostUnfolded
   few-unfolded = within-exactly n .0 (unfolds-exactly n .0 (after-limits .0) .1) .0
@@ -52,7 +52,7 @@ module _ (n : Net) (r w : List ℕ) (a : lift n r ≡ run w) where
   unfolding lifting opening
   is-run =
       not-stuck ofTable n 0 (opening n) r
-      (unless-run (stuck ofTable (replay n 0 (opening n) r)) (unless (again (repeated n (earliest n) 0 (opening n) r)) (run (lifted n (earliest n) (opening n) r))) w (after-limits .1) .0)
+      (unless-run (stuck ofTable (replay n 0 (opening n) r)) (unless (again (repeated n (ownOrEarliest n) 0 (opening n) r)) (run (lifted n (ownOrEarliest n) (opening n) r))) w (after-limits .1) .0)
 
 -- A run that lifts is opened; one that does not is refused as its lift is.
 module _ (s r : List ℕ) (n : ℕ) (j : judgeOf s ≡ Fine n) where

@@ -18,8 +18,9 @@ use Rattle.model.specs.Across.{Answer, run, refusal, ofTable, stopped, other, u
 use Rattle.model.specs.Demands.{Correspond, Projects}
 use Rattle.model.proofs.Answers.{unless-run, not-stuck, stuck-none, exchanging-run, short-length, length-short}
 use Rattle.model.proofs.Exchange.{exchanged-twice, length-exchanged}
-use Rattle.model.proofs.Demands.{lift-lifts, lift-project, lift-exactly, lift-again, project-projects, project-exactly, exchange-exchanged, exchange-lifts, exchange-ends, lift-length}
+use Rattle.model.proofs.Demands.{lift-lifts, lift-project, lift-exactly, lift-again, lift-read, lift-unread, lift-unread-at, project-projects, project-exactly, exchange-exchanged, exchange-lifts, exchange-ends, lift-length}
 use Rattle.model.proofs.Project.{length-back}
+use Rattle.model.proofs.Readings.{forced}
 use Rattle.refusal.specs.declared.Judged.{Judged}
 use Rattle.refusal.specs.declared.Judged.the-variants.{Fine}
 use Rattle.refusal.specs.Answer as refused
@@ -38,6 +39,8 @@ use Rattle.lift.specs.Calls.{liftOf, liftedOf}
 use Rattle.ends.specs.Calls.{liftEndOf, liftEndedOf, unfoldedReplayOf, unfoldedReplayedOf}
 use Rattle.project.specs.Calls.{projectOf, projectedOf}
 use Rattle.promises.specs.Across.{liftOn, projectOn, TakenBack, ReadBack, TakenExactly, TurnedAway, LiftedAlike}
+use Rattle.promises.specs.Former.{formerLift, formerLiftOf}
+use Rattle.promises.proofs.Former.{none-new}
 use Rattle.promises.proofs.Game.{swapping-fine}
 
 -- ---- the calls on a judged table, by the model's answers
@@ -136,6 +139,7 @@ project-read-back s w out c h endOut =
       run = subst (λ (x : List ℕ). T (runs (netOf s) (begin (netOf s)) x)) (sym on) (p .run);
       ends = subst (λ (x : List ℕ). Correspond (netOf s) (end (netOf s) (begin (netOf s)) x) (end (basic (netOf s)) (begin (basic (netOf s))) w)) (sym on) (p .ends);
       answer = λ g. ap (λ (x : List ℕ). replayOf s x (length endOut)) on ∙ replay-given s n j r (length endOut) (subst (λ (k : ℕ). k ≤ mostSteps) (sym long) short) (p .run) g;
+      forced = forced (netOf s) (accepted-sound s n j) w (p .unfolded);
     }
 
 -- Project takes every run of the unfolded net from its start, and nothing else.
@@ -179,27 +183,49 @@ accepted n r room c e =
     let y = link-fine (stuck ofTable (replay n 0 (opening n) r)) _ c (x .1) in
     (x .0, not-stuck ofTable n 0 (opening n) r (y .0))
 
--- A run that replay accepts is turned away with 15 exactly where an event with a persistent postcondition comes again.
+-- A run that replay accepts is turned away with 15 exactly where no run of the unfolded net reads back as it.
 pub turned-away : (s r end : List ℕ) (c : ℕ) → replayOf s r (length end) ≡ Fine c → unfoldingRefused (netOf s) ≡ none → (room : ℕ) → TurnedAway s r room
-unfolding replayOf playedOf fitted opening
+unfolding replayOf playedOf fitted opening formerLiftOf
 turned-away s r end c h unfolds room =
     let (n, j, f) = then-fine (judgeOf s) _ c h in
     let (short, t) = accepted (netOf s) r (length end) c f in
+    let sound = accepted-sound s n j in
+    let told : (i : ℕ) → liftOf s r room ≡ refusedAt 15 i → lift (netOf s) r ≡ refusal (other 15 i)
+    = λ i e. fitted-fifteen (lift (netOf s) r) room i (sym (lift-by s n j r room) ∙ e) in
+    let tells : (i : ℕ) → lift (netOf s) r ≡ refusal (other 15 i) → liftOf s r room ≡ refusedAt 15 i
+    = λ i a. lift-by s n j r room ∙ ap (λ (x : Answer). fitted x room) a in
+    let lifts : liftOf s r room ≡ Fine (length r) → (w : List ℕ) × (lift (netOf s) r ≡ run w)
+    = λ e. let (w, a, u, v) = fitted-fine (lift (netOf s) r) room (length r) (sym (lift-by s n j r room) ∙ e) in (w, a) in
+    let fits : length r ≤ room → (w : List ℕ) × (lift (netOf s) r ≡ run w) → liftOf s r room ≡ Fine (length r)
+    = λ g x.
+    let long = lift-length (netOf s) r (x .0) (lift-lifts (netOf s) r (x .0) (x .1)) in
+    lift-given s n j r (x .0) room (x .1) (omega (arith, g, long)) ∙ ap Fine long in
     record {
+      refusing = (
+        λ e. lift-unread (netOf s) r short unfolds sound .0 (e .0, told (e .0) (e .1)) .1,
+        λ q. let a = lift-unread (netOf s) r short unfolds sound .1 (t, q) in (a .0, tells (a .0) (a .1)),
+      );
+      unread = λ i. (
+        λ e. lift-unread-at (netOf s) r short unfolds sound i .0 (told i e) .1,
+        λ g. tells i (lift-unread-at (netOf s) r short unfolds sound i .1 (t, g)),
+      );
       repeating = λ i. (
-        λ e. lift-again (netOf s) r short unfolds i .0 (fitted-fifteen (lift (netOf s) r) room i (sym (lift-by s n j r room) ∙ e)) .1,
-        λ g. lift-by s n j r room ∙ ap (λ (x : Answer). fitted x room) (lift-again (netOf s) r short unfolds i .1 (t, g)),
+        λ e. lift-again (netOf s) r short unfolds i .0 (told i e) .1,
+        λ g. tells i (lift-again (netOf s) r short unfolds i .1 (t, g)),
+      );
+      sooner = λ i e. let a = none-new (netOf s) r short unfolds i (told i e) in (a .0, a .1, former s r n (a .0) room j (a .2));
+      reading = λ g. (
+        λ e. lift-read (netOf s) r short unfolds sound .0 (lifts e),
+        λ w. fits g (lift-read (netOf s) r short unfolds sound .1 w),
       );
       lifting = λ g. (
-        λ e.
-            let (w, a, u, v) = fitted-fine (lift (netOf s) r) room (length r) (sym (lift-by s n j r room) ∙ e) in
-            lift-exactly (netOf s) r short unfolds .0 (w, a) .1,
-        λ q.
-            let (w, a) = lift-exactly (netOf s) r short unfolds .1 (t, q) in
-            let long = lift-length (netOf s) r w (lift-lifts (netOf s) r w a) in
-            lift-given s n j r w room a (omega (arith, g, long)) ∙ ap Fine long,
+        λ e. lift-exactly (netOf s) r short unfolds .0 (lifts e) .1,
+        λ q. fits g (lift-exactly (netOf s) r short unfolds .1 (t, q)),
       );
     }
+  where
+    former : (s r : List ℕ) (n k room : ℕ) → judgeOf s ≡ Fine n → formerLift (netOf s) r ≡ refusal (other 15 k) → formerLiftOf s r room ≡ refusedAt 15 k
+    former s r n k room j a = rw (j, a)
 
 -- ---- demand 3
 

@@ -13,7 +13,7 @@ use Rattle.model.specs.Net.{Net, begin, fire, Stop, unknown, lacks, meets, stop
 use Rattle.model.specs.Runs.{Played, ends, refused, end, State, opening, replay}
 use Rattle.model.specs.Unfolding.{basic}
 use Rattle.model.specs.Exchange.{exchanged}
-use Rattle.model.specs.Across.{Whose, stopped, Answer, run, refusal, unless, stuck, tooLong, unfoldingRefused, earliest, lifted, repeated, again, lifting, lift, readBack, projecting, project, noStep, notApart, exchanging, exchange}
+use Rattle.model.specs.Across.{Whose, stopped, Answer, run, refusal, unless, stuck, tooLong, unfoldingRefused, ownOrEarliest, lifted, repeated, again, lifting, lift, readBack, projecting, project, noStep, notApart, exchanging, exchange}
 use Rattle.model.specs.Across as model
 use Rattle.model.specs.Lent.{bytes, marking}
 use Rattle.refusal.specs.declared.Judged.{Judged}
@@ -82,7 +82,7 @@ module _ (f : Answer → Judged) (h : (x : model.Refusal) → f (refusal x) ≡ 
   bare-steps w (ends s) a g e = e
   bare-steps w (refused v k) a g e = ap bare (h (stopped w v k))
 
-  bare-lift : (s r : List ℕ) (g : Old) → bare (f (run (lifted (netOf s) (earliest (netOf s)) (opening (netOf s)) r))) ≡ g
+  bare-lift : (s r : List ℕ) (g : Old) → bare (f (run (lifted (netOf s) (ownOrEarliest (netOf s)) (opening (netOf s)) r))) ≡ g
       → bare (andThen (judgeOf s) (λ _. f (lift (netOf s) r))) ≡ oldLifting s r g
   unfolding lift lifting
   bare-lift s r g e =
@@ -90,7 +90,7 @@ module _ (f : Answer → Judged) (h : (x : model.Refusal) → f (refusal x) ≡ 
       bare-then (judgeOf s) _ _ (λ _.
       bare-unless (tooLong r) _ _ (bare-unless (unfoldingRefused n) _ _
       (bare-steps model.ofTable (replay n 0 (opening n) r) _ _
-      (bare-unless (again (repeated n (earliest n) 0 (opening n) r)) _ _ e))))
+      (bare-unless (again (repeated n (ownOrEarliest n) 0 (opening n) r)) _ _ e))))
 
   bare-project : (s w : List ℕ) (g : Old) → bare (f (run (readBack (netOf s) w))) ≡ g
       → bare (andThen (judgeOf s) (λ _. f (project (netOf s) w))) ≡ oldProjecting s w g
@@ -124,7 +124,7 @@ exchange-before s r k =
 
 pub lift-before : (s r : List ℕ) (room : ℕ) → bare (liftOf s r room) ≡ oldLift s r room
 unfolding liftOf fitted oldLift
-lift-before s r room = bare-lift (λ a. fitted a room) (λ x. refl) s r _ (bare-fitting (length (lifted (netOf s) (earliest (netOf s)) (opening (netOf s)) r)) room)
+lift-before s r room = bare-lift (λ a. fitted a room) (λ x. refl) s r _ (bare-fitting (length (lifted (netOf s) (ownOrEarliest (netOf s)) (opening (netOf s)) r)) room)
 
 pub lift-end-before : (s r : List ℕ) (room : ℕ) → bare (liftEndOf s r room) ≡ oldLiftEnd s r room
 unfolding liftEndOf ended oldLiftEnd

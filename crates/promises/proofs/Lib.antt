@@ -1,5 +1,6 @@
 pub mod Refused
 pub mod Before
+pub mod Former
 pub mod Stopped
 pub mod Named
 pub mod Game

@@ -14,7 +14,7 @@ use Rattle.model.specs.Runs.{Played, ends, refused, replay, opening, State}
 use Rattle.model.specs.Unfolding.{basic}
 use Rattle.model.specs.Exchange.{apartStep}
 use Rattle.model.specs.Lent.{marking}
-use Rattle.model.specs.Across.{Whose, stopped, Answer, run, refusal, other, unless, stuck, mostSteps, mostUnfolded, tooLong, within, lowestIdle, idleOrOver, unfoldingRefused, earliest, repeated, again, lifting, lift, projecting, project, noStep, notApart, exchanging, exchange}
+use Rattle.model.specs.Across.{Whose, stopped, Answer, run, refusal, other, unless, stuck, mostSteps, mostUnfolded, tooLong, within, lowestIdle, idleOrOver, unfoldingRefused, ownOrEarliest, repeated, again, lifting, lift, projecting, project, noStep, notApart, exchanging, exchange}
 use Rattle.model.specs.Across as model
 use Rattle.refusal.specs.declared.Judged.{Judged}
 use Rattle.refusal.specs.declared.Judged.the-variants.{Fine, Refused}
@@ -271,7 +271,7 @@ lift-answer n r =
     unless-listed ofLift (tooLong r) _ (long-listed ofLift r tt)
     (unless-listed ofLift (unfoldingRefused n) _ (unfolding-listed ofLift n tt tt)
     (unless-listed ofLift (stuck model.ofTable (replay n 0 (opening n) r)) _ (stuck-listed ofLift model.ofTable (replay n 0 (opening n) r) tt tt tt)
-    (unless-listed ofLift (again (repeated n (earliest n) 0 (opening n) r)) _ (again-listed (repeated n (earliest n) 0 (opening n) r)) tt)))
+    (unless-listed ofLift (again (repeated n (ownOrEarliest n) 0 (opening n) r)) _ (again-listed (repeated n (ownOrEarliest n) 0 (opening n) r)) tt)))
   where
     again-listed : (o : Option ℕ) → T (listedIf ofLift (again o))
     again-listed none = tt

@@ -15,7 +15,7 @@ use Rattle.model.specs.Net.{Net, Sound, Marking, begin, Stop, unknown, lacks, m
 use Rattle.model.specs.Runs.{State, opening, Played, ends, refused, replay}
 use Rattle.model.specs.Unfolding.{basic}
 use Rattle.model.specs.Exchange.{apartStep, exchanged}
-use Rattle.model.specs.Across.{Whose, Refusal, stopped, Answer, run, refusal, unless, stuck, tooLong, unfoldingRefused, earliest, lifted, repeated, again, lifting, lift, readBack, projecting, project, noStep, notApart, exchanging, exchange}
+use Rattle.model.specs.Across.{Whose, Refusal, stopped, Answer, run, refusal, unless, stuck, tooLong, unfoldingRefused, ownOrEarliest, lifted, repeated, again, lifting, lift, readBack, projecting, project, noStep, notApart, exchanging, exchange}
 use Rattle.model.specs.Across as model
 use Rattle.model.specs.Lent.{marking}
 use Rattle.model.specs.Stopped.{StoppedBy, StoppedAt}
@@ -291,13 +291,13 @@ unfolding lift lifting acrossOf opening
 lift-told f h g s r =
     let n = netOf s in
     let steps = stuck model.ofTable (replay n 0 (opening n) r) in
-    let repeat = again (repeated n (earliest n) 0 (opening n) r) in
-    let numbers = f (run (lifted n (earliest n) (opening n) r)) in
+    let repeat = again (repeated n (ownOrEarliest n) 0 (opening n) r) in
+    let numbers = f (run (lifted n (ownOrEarliest n) (opening n) r)) in
     let told : f (lift n r) ≡ refusedOr (tooLong r) (refusedOr (unfoldingRefused n) (refusedOr steps (refusedOr repeat numbers)))
     = told-unless f h (tooLong r) _ ∙ ap (refusedOr (tooLong r)) (told-unless f h (unfoldingRefused n) _ ∙ ap (refusedOr (unfoldingRefused n)) (told-unless f h steps _ ∙ ap (refusedOr steps) (told-unless f h repeat _))) in
     subst (λ (z : Judged). RunNames (acrossOf s r) model.ofTable n (begin n) r (andThen (judgeOf s) (λ _. z))) (sym told)
     (run-names (acrossOf s r) (judging-across s r) model.ofTable n (judged-sound s _) (opening n) r (refusedOr repeat numbers)
-    (later (repeated n (earliest n) 0 (opening n) r) numbers (g (lifted n (earliest n) (opening n) r))))
+    (later (repeated n (ownOrEarliest n) 0 (opening n) r) numbers (g (lifted n (ownOrEarliest n) (opening n) r))))
   where
     later : (o : Option ℕ) (a : Judged) → Unnamed a → Unnamed (refusedOr (again o) a)
     later none a u x e t = u x e t

@@ -1,5 +1,5 @@
 -- The answers as they were before a refusal named a condition: a number and a place, and for a firing the place 0. The calls that may now
--- name one are written out so, to be held against what they answer.
+-- name one are written out so, to be held against what they answer; a lift is one by the present rule, and Former has the one before.
 use mathlib.Core.Bool.{Bool, true, false, cond}
 use mathlib.Core.Option.{Option, none, some}
 use mathlib.Core.List.{List, _++_}
@@ -10,7 +10,7 @@ use Rattle.lists.specs.Lists.{mem}
 use Rattle.model.specs.Net.{Net, Stop, stopNumber, stopping}
 use Rattle.model.specs.Runs.{Played, ends, refused, State, opening, replay}
 use Rattle.model.specs.Unfolding.{basic}
-use Rattle.model.specs.Across.{Refusal, numberOf, placeOf, tooLong, unfoldingRefused, earliest, lifted, repeated, again, readBack, noStep, notApart}
+use Rattle.model.specs.Across.{Refusal, numberOf, placeOf, tooLong, unfoldingRefused, ownOrEarliest, lifted, repeated, again, readBack, noStep, notApart}
 use Rattle.model.specs.Lent.{marking}
 use Rattle.refusal.specs.declared.Judged.{Judged}
 use Rattle.refusal.specs.declared.Judged.the-variants.{Fine, Refused}
@@ -117,11 +117,11 @@ oldExchange s r k =
 abbrev pub oldLifting : List ℕ → List ℕ → Old → Old
 oldLifting s r rest =
     let n = netOf s in
-    oldThen (bare (judgeOf s)) (λ _. oldOr (tooLong r) (oldOr (unfoldingRefused n) (oldStuck (replay n 0 (opening n) r) (oldOr (again (repeated n (earliest n) 0 (opening n) r)) rest))))
+    oldThen (bare (judgeOf s)) (λ _. oldOr (tooLong r) (oldOr (unfoldingRefused n) (oldStuck (replay n 0 (opening n) r) (oldOr (again (repeated n (ownOrEarliest n) 0 (opening n) r)) rest))))
 
 -- The lift and its end (01, Runs across).
 unfoldable pub oldLift : List ℕ → List ℕ → ℕ → Old
-oldLift s r room = oldLifting s r (oldFitting (length (lifted (netOf s) (earliest (netOf s)) (opening (netOf s)) r)) room)
+oldLift s r room = oldLifting s r (oldFitting (length (lifted (netOf s) (ownOrEarliest (netOf s)) (opening (netOf s)) r)) room)
 
 unfoldable pub oldLiftEnd : List ℕ → List ℕ → ℕ → Old
 oldLiftEnd s r room = oldLifting s r (oldFitting (basic (netOf s) .conditions) room)

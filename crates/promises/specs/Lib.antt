@@ -1,7 +1,8 @@
--- What is promised of the calls: which refusals they give and which condition these name, what the answers were before they named one, and
--- what holds of several calls together.
+-- What is promised of the calls: which refusals they give and which condition these name, what the answers were before they named one and
+-- by the former rule of lifting, and what holds of several calls together.
 pub mod Refused
 pub mod Before
+pub mod Former
 pub mod Stopped
 pub mod Game
 pub mod Across
