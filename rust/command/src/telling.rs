@@ -1,6 +1,6 @@
 //! Refusals in words: what the number means, and what the place is in the file that was given.
 
-use text::Part;
+use text::{Event, Part};
 use wire::{Failure, Refusal};
 
 use crate::files::no_such_record;
@@ -24,7 +24,7 @@ pub fn meaning(number: u64) -> &'static str {
         12 => "contact: an ordinary postcondition of the event holds already and is not among its preconditions",
         13 => "the event touches nothing once unfolded: it takes nothing and marks only what no event reads",
         14 => "there are over 65535 unfolded conditions or unfolded events",
-        15 => "an event that marks a persistent condition comes a second time, and such a run is not lifted",
+        15 => "an event comes again that marks a persistent condition which another event uses; the unfolded net has no such run",
         16 => "what was lent for the answer is too short",
         17 => "the two steps depend on each other and may not change places",
         18 => "a marking has the wrong length, or a byte above 1",
@@ -93,12 +93,15 @@ fn record_at(bytes: &[u8], offset: usize) -> (Option<u8>, usize) {
 }
 
 impl Source {
+    /// An event with its name.
+    fn event_called(&self, number: u16) -> String {
+        let name = self.table.event_name(number);
+        format!("event {}", with_name(number, &name))
+    }
+
     /// An event with its name and its line.
     fn event_told(&self, number: u16) -> String {
-        let told = format!(
-            "event {}",
-            with_name(number, &self.table.event_name(number))
-        );
+        let told = self.event_called(number);
         match self.table.events.get(usize::from(number)) {
             Some(event) if self.is_text => {
                 format!("{told}, line {} of {}", event.place.line, self.path)
@@ -173,10 +176,10 @@ impl Source {
         let Some(event) = run.steps.get(step) else {
             return told;
         };
-        let event = with_name(*event, &self.table.event_name(*event));
+        let event = self.event_called(*event);
         match run.places.get(step) {
-            Some(place) => format!("{told}: event {event}, {place} of {}", self.path),
-            None => format!("{told}: event {event}"),
+            Some(place) => format!("{told}: {event}, {place} of {}", self.path),
+            None => format!("{told}: {event}"),
         }
     }
 
@@ -210,12 +213,41 @@ impl Source {
         }
     }
 
-    /// What a refusal of a run of this table means: by which condition a step was stopped, or else what its number means.
-    fn run_meaning(&self, refusal: Refusal) -> String {
-        let Refusal { number, by, .. } = refusal;
-        match by {
-            Some(condition) => stopped_by(number, &self.condition_told(condition as u16)),
-            None => meaning_with(number, self.due_in_run(number).as_deref()),
+    /// The lowest persistent condition that an event marks and another event uses, with the lowest such user.
+    fn marked_for_other(&self, event: u16) -> Option<(u16, u16)> {
+        let events = || (0..=u16::MAX).zip(&self.table.events);
+        let other_user = |b: u16| {
+            let uses =
+                |(user, lists): &(u16, &Event)| *user != event && lists.preconditions.contains(&b);
+            events().find(uses).map(|(user, _)| (b, user))
+        };
+        let marked = &self.table.events.get(usize::from(event))?.postconditions;
+        let mut marked = marked.iter().filter(|b| self.table.is_persistent(**b));
+        marked.find_map(|b| other_user(*b))
+    }
+
+    /// Why a run of this table does not lift, whose event at a step came before: what that event marks, and which other event uses it.
+    fn repeat_told(&self, run: &RunSource, step: usize) -> Option<String> {
+        let event = *run.steps.get(step)?;
+        let before = run.steps[..step].iter().position(|e| *e == event)?;
+        let (condition, user) = self.marked_for_other(event)?;
+        Some(format!(
+            "{} came before, at step {before}, and marks {}, which {} uses; the unfolded net has no such run",
+            self.event_called(event),
+            self.condition_told(condition),
+            self.event_called(user)
+        ))
+    }
+
+    /// What a refusal of a run of this table means: which condition stopped a step, why an event may not come again, or else what its
+    /// number means.
+    fn run_meaning(&self, run: &RunSource, refusal: Refusal) -> String {
+        let Refusal { number, place, by } = refusal;
+        let repeat = (number == 15).then(|| self.repeat_told(run, place as usize));
+        match (by, repeat.flatten()) {
+            (Some(condition), _) => stopped_by(number, &self.condition_told(condition as u16)),
+            (None, Some(repeat)) => repeat,
+            (None, None) => meaning_with(number, self.due_in_run(number).as_deref()),
         }
     }
 
@@ -223,7 +255,7 @@ impl Source {
     pub fn run_told(&self, run: &RunSource, refusal: Refusal) -> Told {
         Told {
             refusal,
-            what: self.run_meaning(refusal),
+            what: self.run_meaning(run, refusal),
             place: self.step_told(run, refusal),
         }
     }

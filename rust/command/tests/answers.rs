@@ -245,11 +245,11 @@ fn refused_runs_are_told() {
     );
     let (out, err) = refused(&examples, &["list", "changeover.txt", "careful"]);
     assert_eq!(out, "refused 15 at 3\n");
-    assert!(
-        err.contains(
-            "step 3 of run `careful`, counted from 0: event 0 `set-time`, line 56, column 34"
-        ),
-        "{err}"
+    assert_eq!(
+        err,
+        "  what: event 0 `set-time` came before, at step 2, and marks condition 7 `time-set`, which event 10 `connect-b` uses; \
+         the unfolded net has no such run\n  \
+         where: step 3 of run `careful`, counted from 0: event 0 `set-time`, line 56, column 34 of changeover.txt\n"
     );
     let (out, err) = refused(&examples, &["list", "unused.txt"]);
     assert_eq!(out, "refused 13 at 0\n");
@@ -312,13 +312,23 @@ fn every_example_is_judged() {
     assert!(judged("unused.txt").contains(
         "run `once`: 1 step, ends in {0}, does not lift, as the table does not unfold\n"
     ));
-    for name in ["net-b.txt", "net-c.txt"] {
-        let told = judged(name);
-        assert!(
-            told.contains("run `twice`: 2 steps, ends in {0")
-                && told.contains(", does not lift: refused 15 at 1\n")
-        );
-    }
+    let told = judged("net-b.txt");
+    assert!(
+        told.contains(
+            "run `twice`: 2 steps, ends in {0, 1}, does not lift: refused 15 at 1\n  \
+             what: event 0 came before, at step 0, and marks condition 1, which event 1 uses; "
+        ),
+        "{told}"
+    );
+    assert!(judged("net-c.txt").ends_with("run `twice`: 2 steps, ends in {0}, lifts\n"));
+}
+
+#[test]
+fn a_repeat_that_lifts_is_listed() {
+    assert_eq!(
+        fine(&["list", "net-c.txt", "twice"]),
+        "start 0\n0 0 0 0\n1 0 1 0\nend unfolded 0,1\n"
+    );
 }
 
 #[test]
@@ -478,6 +488,58 @@ fn a_stopped_step_is_told_by_its_condition() {
         let both = format!("run `r`: {line}{what}  where: step ");
         assert!(judged.contains(&both), "{judged}");
     }
+}
+
+#[test]
+fn a_repeat_that_does_not_lift_is_told_by_what_it_marks_for_another() {
+    let begins = "conditions: a, b [p], c [p], d [p], e\n\
+                  x: {a, b} -> {a, b, c, d, e}\ny: {b, c} -> {}\n";
+    for (rest, line, what) in [
+        (
+            "z: {e} -> {}\nstart: {a, b}\nrun r: x, y, z, x\n",
+            "refused 15 at 3\n",
+            "event 0 `x` came before, at step 0, and marks condition 1 `b`, which event 1 `y` uses",
+        ),
+        (
+            "z: {e} -> {}\nstart: {a, b}\nrun r: x, z, x, y, z, z\n",
+            "refused 11 at 5 by 4\n",
+            "condition 4 `e` does not hold, and the event needs it",
+        ),
+        (
+            "z: {a, c, d} -> {a, d}\n3: {a} -> {a, c}\nstart: {a, c, d}\nrun r: z, z, 3, 3\n",
+            "refused 15 at 3\n",
+            "event 3 came before, at step 2, and marks condition 2 `c`, which event 1 `y` uses",
+        ),
+    ] {
+        let (out, err, judged) = told_of_run(&format!("{begins}{rest}"));
+        assert_eq!(out, line);
+        assert!(err.starts_with(&format!("  what: {what}")), "{err}");
+        let is_repeat = line.starts_with("refused 15 ");
+        let has_run = !err.contains("; the unfolded net has no such run\n");
+        assert_eq!(has_run, !is_repeat);
+        assert_eq!(judged.contains(", does not lift: refused 15 "), is_repeat);
+        assert!(
+            judged.contains(&format!("{line}  what: {what}")),
+            "{judged}"
+        );
+    }
+}
+
+#[test]
+fn a_repeat_of_records_is_told_by_numbers() {
+    let folder = Folder::new().unwrap();
+    let net = fs::read(Path::new(TOP).join("examples/net-b.txt")).unwrap();
+    let table = text::read(&net).unwrap();
+    folder.write("net.bin", &table.bytes()).unwrap();
+    let twice = &table.runs[table.run_called("twice").unwrap()];
+    folder.write("twice.bin", &twice.bytes()).unwrap();
+    let (out, err) = refused(folder.path(), &["list", "net.bin", "twice.bin"]);
+    assert_eq!(out, "refused 15 at 1\n");
+    assert_eq!(
+        err,
+        "  what: event 0 came before, at step 0, and marks condition 1, which event 1 uses; the unfolded net has no such run\n  \
+         where: step 1 of twice.bin, counted from 0: event 0\n"
+    );
 }
 
 #[test]

@@ -233,6 +233,33 @@ fn refusals_of_tables_come_first() {
 }
 
 #[test]
+fn repeats_of_events_that_mark() {
+    let own = table(1, &[0], &[event(&[0], &[0])], &[0]);
+    assert_eq!(
+        compared_bytes(&own, &run(&[0, 0, 0])),
+        "start 0\n0 0 0 0\n1 0 1 0\n2 0 1 0\nend unfolded 0,1\n"
+    );
+    let longest = compared_bytes(&own, &run(&[0; 4096]));
+    assert!(longest.ends_with("\n4095 0 1 0\nend unfolded 0,1\n"));
+    let events = [
+        event(&[2], &[0]),
+        event(&[0, 1], &[0, 3]),
+        event(&[1], &[1, 4]),
+    ];
+    let mixed = table(5, &[0, 1, 3], &events, &[1, 2]);
+    let steps = [0, 1, 1, 1];
+    let unfolded = compared_bytes(&mixed, &run(&steps));
+    assert_eq!(
+        unfolded,
+        "start 1,2\n0 0 0 0,1\n1 1 3 0,1,3\n2 1 5 0,1,3\n3 1 5 0,1,3\nend unfolded 1,2,3,4\n"
+    );
+    let late = [event(&[], &[0]), event(&[0], &[]), event(&[1], &[1])];
+    let late = table(2, &[0, 1], &late, &[1]);
+    let steps = [&[2; 1000][..], &[0, 1, 2, 0, 2]].concat();
+    assert_eq!(compared_bytes(&late, &run(&steps)), "refused 15 at 1003\n");
+}
+
+#[test]
 fn the_largest_unfoldings() {
     let steps: Vec<u16> = (0..27).collect();
     let written = compared_bytes(&table_bytes(&event_limit_net()), &run(&steps));

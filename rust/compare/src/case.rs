@@ -1,6 +1,6 @@
 //! A case: one request with everything that it gives and lends, made from the case's seed alone.
 
-use second::across::lifted;
+use second::across::{lifted, may_repeat};
 use second::game::{fire, play, Game, Stop};
 use second::generator::{any_marking, walk, Random, Walk};
 use second::records::{record_bytes, word_bytes, LIFTED, MOST_STEPS, RUN};
@@ -12,7 +12,7 @@ use wire::{Call, Request, START};
 
 use crate::elements::{any_exported_table, ask_element};
 use crate::expected::{double_word_bytes, marker_word};
-use crate::nets::{any_number, any_table, Asked};
+use crate::nets::{any_net, any_net_across, any_number, any_table, Asked};
 
 /// Each call as often as this says, of their sum.
 const OFTEN: [(Call, usize); 28] = [
@@ -129,9 +129,27 @@ fn any_run(random: &mut Random, net: &Net) -> Vec<u16> {
             let wanted = |stop| is_kind(stop, kind, lasting);
             add_stopped(random, net, events, &mut run, wanted);
         }
+        20..=24 => add_wrong_repeat(random, net, &mut run),
         _ => {}
     }
     run
+}
+
+/// Adds a step to a run that plays whose event came before and marks for another, if one of its own steps is such a one and fires; now
+/// and then the run goes on after it.
+fn add_wrong_repeat(random: &mut Random, net: &Net, run: &mut Vec<u16>) {
+    let Ok(end) = play(net, net.start(), run) else {
+        return;
+    };
+    let wrong = |e: &&u16| !may_repeat(net, **e) && fire(net, &end, **e).is_ok();
+    let Some(step) = run.iter().rev().find(wrong).copied() else {
+        return;
+    };
+    run.push(step);
+    if random.percent(30) {
+        run.extend_from_within(..1);
+    }
+    run.truncate(MOST_STEPS);
 }
 
 /// A stop has this number, and its condition is persistent or a copy exactly if the kind says so.
@@ -182,7 +200,8 @@ fn lifting_run(random: &mut Random, net: &Net, unfolding: &Unfolding) -> Vec<u16
     }
 }
 
-/// Adds an unfolded step that is stopped to a run that plays: often by contact at a copy, as where an event that marks comes again.
+/// Adds an unfolded step that is stopped to a run that plays: often by contact at a copy, as where an event that marks for others comes
+/// again.
 fn stop_unfolded(random: &mut Random, unfolding: &Unfolding, run: &mut Vec<u16>) {
     let kinds = [(11, false), (11, true), (12, false), (12, true), (12, true)];
     let kind = kinds[random.below(kinds.len())];
@@ -495,6 +514,17 @@ fn ask_record(random: &mut Random, request: &mut Request) {
     }
 }
 
+/// A table to ask about by a call: those that go across meet more repeats, and few exports take long.
+fn table_for(random: &mut Random, call: Call) -> Asked {
+    match call {
+        Call::ElementCount | Call::Element => any_exported_table(random, call),
+        Call::Lift | Call::LiftEnd | Call::Project | Call::UnfoldedReplay => {
+            any_table(random, any_net_across)
+        }
+        _ => any_table(random, any_net),
+    }
+}
+
 /// The call of a seed's case.
 pub fn call_of(seed: u64) -> Call {
     any_call(&mut Random::new(seed))
@@ -511,10 +541,7 @@ pub fn case(seed: u64) -> Request {
         ask_record(random, &mut request);
         return request;
     }
-    let Asked { bytes, net } = match call {
-        Call::ElementCount | Call::Element => any_exported_table(random, call),
-        _ => any_table(random),
-    };
+    let Asked { bytes, net } = table_for(random, call);
     request.table = bytes;
     match call {
         Call::Judge | Call::Counts | Call::UnfoldedCounts | Call::ElementCount => {}

@@ -42,7 +42,7 @@ fn walk_of(net: &Net) -> Walk {
 /// A table of any kind for a call on the export, with few that take long.
 pub fn any_exported_table(random: &mut Random, call: Call) -> Asked {
     loop {
-        let asked = any_table(random);
+        let asked = any_table(random, any_net);
         let kept = match walk_of(&asked.net) {
             Walk::Short => 1_000,
             Walk::VeryLong if call == Call::ElementCount => 5,

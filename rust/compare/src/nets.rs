@@ -1,7 +1,8 @@
 //! Nets and tables to ask about, beyond those of the second implementation's generator.
 
 use second::generator::{
-    damaged, endless_net, event_limit_net, large_net, limit_net, middle_net, small_net, Random,
+    damaged, endless_net, event_limit_net, large_net, leave_to, limit_net, middle_net,
+    repeating_net, small_net, Random,
 };
 use second::table::{table_bytes, Event, Net};
 
@@ -70,6 +71,37 @@ pub fn ring_net(random: &mut Random) -> Net {
             .map(|b| lasting.contains(&b))
             .collect(),
     }
+}
+
+/// The numbers of the events of a net that put an ordinary condition, or of those that do not.
+fn that_put(net: &Net, ordinary: bool) -> Vec<usize> {
+    let puts = |e: &usize| {
+        let mut put = net.events[*e].postconditions.iter();
+        put.any(|b| !net.persistent[usize::from(*b)])
+    };
+    let events = 0..net.events.len();
+    events.filter(|e| puts(e) == ordinary).collect()
+}
+
+/// A ring net with long runs of events that mark again and again: some persistent conditions are left to an event of the ring, and
+/// some of the events that mark for others put back what they take.
+pub fn repeating_ring_net(random: &mut Random) -> Net {
+    let mut net = ring_net(random);
+    let (ring, setters) = (that_put(&net, true), that_put(&net, false));
+    for condition in (0..=u16::MAX).take(net.persistent.len()) {
+        let owner = ring[random.below(ring.len())];
+        if net.persistent[usize::from(condition)] && random.percent(50) {
+            leave_to(random, &mut net, condition, owner);
+        }
+    }
+    for setter in setters.into_iter().filter(|_| random.percent(30)) {
+        let Event {
+            preconditions,
+            postconditions,
+        } = &mut net.events[setter];
+        *postconditions = ascending([&preconditions[..], postconditions].concat());
+    }
+    net
 }
 
 /// The largest table: 256 conditions, 256 events, and every list as long as it can be.
@@ -159,9 +191,9 @@ fn idle_net(random: &mut Random) -> Net {
     net
 }
 
-/// A net of any kind, mostly small.
-pub fn any_net(random: &mut Random) -> Net {
-    match random.below(1000) {
+/// A net of the kind at a place among a thousand, mostly small.
+fn net_of_kind(random: &mut Random, place: usize) -> Net {
+    match place {
         0..=459 => small_net(random),
         460..=779 => ring_net(random),
         780..=919 => middle_net(random),
@@ -173,6 +205,21 @@ pub fn any_net(random: &mut Random) -> Net {
         967 => endless_net(),
         968..=969 => broad_net(random),
         _ => power_net(random),
+    }
+}
+
+/// A net of any kind, mostly small.
+pub fn any_net(random: &mut Random) -> Net {
+    let place = random.below(1000);
+    net_of_kind(random, place)
+}
+
+/// A net of any kind for a call that goes across: in a third of them, events that mark come again and are lifted.
+pub fn any_net_across(random: &mut Random) -> Net {
+    match random.below(1000) {
+        300..=459 => repeating_net(random),
+        620..=779 => repeating_ring_net(random),
+        place => net_of_kind(random, place),
     }
 }
 
@@ -190,8 +237,8 @@ fn changed(random: &mut Random, net: &Net) -> Vec<u8> {
     bytes
 }
 
-/// A table of any kind: sound, damaged in a known way, changed somewhere, or no table at all.
-pub fn any_table(random: &mut Random) -> Asked {
+/// A table of a net of some kind: sound, damaged in a known way, changed somewhere, or no table at all.
+pub fn any_table(random: &mut Random, any_net: fn(&mut Random) -> Net) -> Asked {
     let net = any_net(random);
     let bytes = match random.below(100) {
         0..=11 => damaged(random, &net).bytes,

@@ -1,8 +1,12 @@
-//! What was seen: how often each call gave each refusal, by which kind of condition, and whether any was missed.
+//! What was seen: how often each call gave each refusal, by which kind of condition, which kinds of repeats were lifted or refused, and
+//! whether any was missed.
 
-use std::collections::BTreeMap;
+use std::collections::{BTreeMap, BTreeSet};
 
 use second::calls::{condition_behind, is_persistent, judge};
+use second::records::words;
+use second::repeats::{repeats, Repeat};
+use second::table::read_table;
 use wire::{Call, Reply, Request};
 
 /// What is told of an outcome beside its number.
@@ -130,6 +134,27 @@ fn outcome(request: &Request, reply: &Reply) -> Outcome {
     (reply.number, more)
 }
 
+/// The calls that lift a run.
+const LIFTS: [Call; 2] = [Call::Lift, Call::LiftEnd];
+
+/// The kinds of repeats that one case met: those of a run that was lifted, or the one for which it was refused.
+fn repeats_met(request: &Request, reply: &Reply) -> BTreeSet<Repeat> {
+    let is_told = LIFTS.contains(&request.call) && matches!(reply.number, 0 | 15);
+    let Some(table) = read_table(&request.table).ok().filter(|_| is_told) else {
+        return BTreeSet::new();
+    };
+    let mut met = repeats(&table.net, &words(&request.given));
+    met.retain(|kind| kind.is_refused() == (reply.number == 15));
+    met
+}
+
+/// A line of a table: what it is of, then columns.
+fn row(of: &str, columns: impl Iterator<Item = String>) -> String {
+    let mut text = format!("{of:<18}");
+    columns.for_each(|column| text.push_str(&format!("{column:>15}")));
+    format!("{}\n", text.trim_end())
+}
+
 /// A count as it is shown: nothing where it is 0.
 fn shown(count: u64) -> String {
     match count {
@@ -138,10 +163,11 @@ fn shown(count: u64) -> String {
     }
 }
 
-/// How often each call came to each outcome.
+/// How often each call came to each outcome, and those that lift met each kind of repeat.
 #[derive(Default)]
 pub struct Tally {
     seen: BTreeMap<(Call, Outcome), u64>,
+    repeats: BTreeMap<(Call, Repeat), u64>,
 }
 
 impl Tally {
@@ -149,6 +175,9 @@ impl Tally {
     pub fn count(&mut self, request: &Request, reply: &Reply) {
         let key = (request.call, outcome(request, reply));
         *self.seen.entry(key).or_default() += 1;
+        for kind in repeats_met(request, reply) {
+            *self.repeats.entry((request.call, kind)).or_default() += 1;
+        }
     }
 
     /// How often a call came to a number.
@@ -160,25 +189,30 @@ impl Tally {
 
     /// The table of what stopped steps: a row for each call that fires, a column for each number and kind of condition.
     fn stops_table(&self) -> String {
-        let mut text = format!("{:<18}", "stopped by");
-        STOPS
-            .iter()
-            .for_each(|(_, _, words)| text.push_str(&format!("{words:>15}")));
-        text.push('\n');
+        let words = STOPS.iter().map(|(_, _, words)| words.to_string());
+        let mut text = row("stopped by", words);
         let fires = |(call, _): &(Call, &str)| own_refusals(*call).contains(&11);
         for (call, name) in Call::ALL.into_iter().filter(fires) {
-            text.push_str(&format!("{name:<18}"));
-            for (number, kind, _) in STOPS {
-                let count = self.seen.get(&(call, (number, kind)));
-                text.push_str(&format!("{:>15}", shown(count.copied().unwrap_or(0))));
-            }
-            text.truncate(text.trim_end().len());
-            text.push('\n');
+            let count = |number, kind| self.seen.get(&(call, (number, kind))).copied();
+            let counts = STOPS.iter().map(|(number, kind, _)| count(*number, *kind));
+            text += &row(name, counts.map(|count| shown(count.unwrap_or(0))));
         }
         text
     }
 
-    /// The tables of counts: a row for each call, a column for each number, and of 11 and 12 the conditions.
+    /// The table of repeats: a row for each call that lifts, a column for each kind.
+    fn repeats_table(&self) -> String {
+        let words = Repeat::ALL.iter().map(|(_, words)| words.to_string());
+        let mut text = row("repeats", words);
+        for call in LIFTS {
+            let count = |kind| self.repeats.get(&(call, kind)).copied();
+            let counts = Repeat::ALL.iter().map(|(kind, _)| count(*kind));
+            text += &row(call.name(), counts.map(|count| shown(count.unwrap_or(0))));
+        }
+        text
+    }
+
+    /// The tables of counts: a row for each call, a column for each number; of 11 and 12 the conditions; of lifts the repeats.
     pub fn table(&self) -> String {
         let mut text = format!("{:<18}{:>9}{:>9}", "call", "cases", "fine");
         (1..=18).for_each(|number| text.push_str(&format!("{number:>6}")));
@@ -192,10 +226,10 @@ impl Tally {
             text.truncate(text.trim_end().len());
             text.push('\n');
         }
-        text + &self.stops_table()
+        text + &self.stops_table() + &self.repeats_table()
     }
 
-    /// The outcomes that no case came to, of one call or of all, as text.
+    /// The outcomes that no case came to and the repeats that none met, of one call or of all, as text.
     pub fn missed(&self, only: Option<Call>) -> Vec<String> {
         let mut missed = Vec::new();
         let wanted = |(call, _): &(Call, &str)| only.is_none_or(|only| only == *call);
@@ -204,6 +238,11 @@ impl Tally {
                 if !self.seen.contains_key(&(call, outcome)) {
                     let more = outcome.1.text();
                     missed.push(format!("{name} never came to {}{more}", outcome.0));
+                }
+            }
+            for (kind, words) in Repeat::ALL {
+                if LIFTS.contains(&call) && !self.repeats.contains_key(&(call, kind)) {
+                    missed.push(format!("{name} never met a repeat '{words}'"));
                 }
             }
         }

@@ -1,12 +1,16 @@
 //! The generated cases themselves: repeatable, of every call, with outputs of every length; and replies that can differ.
 
-use std::collections::BTreeSet;
+use std::collections::{BTreeMap, BTreeSet};
 
-use compare::case::case;
+use compare::case::{call_of, case};
 use compare::elements::whole_export;
 use compare::expected::expected;
-use second::calls::{condition_behind, is_persistent};
+use second::calls::{condition_behind, event_behind, is_persistent};
 use second::generator::Random;
+use second::records::words;
+use second::repeats::{repeats, Repeat};
+use second::table::read_table;
+use second::unfolding::{Marker, UnfoldedEvent};
 use wire::{Call, Request};
 
 /// The seeds of some thousand cases.
@@ -135,6 +139,55 @@ fn steps_are_stopped_by_every_kind_of_condition() {
     assert!(table[1][0] > 100 && table[1][1] == 0, "{seen:?}");
     let least = unfolded.iter().flatten().min();
     assert!(least.is_some_and(|least| *least > 25), "{seen:?}");
+}
+
+/// The cases of two calls among those of many seeds.
+fn cases_of(calls: [Call; 2]) -> impl Iterator<Item = Request> {
+    let seeds = (0..40_000).map(|n| Random::new(n).draw());
+    seeds
+        .filter(move |seed| calls.contains(&call_of(*seed)))
+        .map(case)
+}
+
+#[test]
+fn runs_with_every_kind_of_repeat_are_lifted_or_refused() {
+    let mut seen = BTreeMap::new();
+    for request in cases_of([Call::Lift, Call::LiftEnd]) {
+        let reply = expected(&request);
+        if !matches!(reply.number, 0 | 15) {
+            continue;
+        }
+        let net = read_table(&request.table).unwrap().net;
+        let kinds = repeats(&net, &words(&request.given));
+        let is_refused = kinds.iter().any(|kind| kind.is_refused());
+        assert_eq!(is_refused, reply.number == 15);
+        let told = |kind: &Repeat| kind.is_refused() == is_refused;
+        for kind in kinds.into_iter().filter(told) {
+            *seen.entry((request.call, kind)).or_insert(0) += 1;
+        }
+    }
+    assert_eq!(seen.len(), 2 * Repeat::ALL.len(), "{seen:?}");
+    assert!(seen.values().all(|count| *count >= 5), "{seen:?}");
+}
+
+#[test]
+fn unfolded_runs_come_in_which_an_event_picks_itself() {
+    let (mut runs, mut picks) = (0, 0);
+    for request in cases_of([Call::Project, Call::UnfoldedReplay]) {
+        if expected(&request).number != 0 {
+            continue;
+        }
+        let numbers = words(&request.given);
+        let behind = |number: &u16| event_behind(&request.table, *number).unwrap();
+        let own = |number: &&u16| {
+            let UnfoldedEvent { event, markers } = behind(number);
+            markers.contains(&Marker::ByEvent(event))
+        };
+        let own = numbers.iter().take(20).filter(own).count();
+        runs += usize::from(own > 0);
+        picks += own;
+    }
+    assert!(runs > 20 && picks > 50, "{runs} {picks}");
 }
 
 #[test]

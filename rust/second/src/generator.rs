@@ -156,13 +156,57 @@ pub fn small_net(random: &mut Random) -> Net {
     shaped_net(random, &shape)
 }
 
+/// Puts a condition into an ascending list, if it is not there.
+fn put_in(list: &mut Vec<u16>, condition: u16) {
+    if let Err(place) = list.binary_search(&condition) {
+        list.insert(place, condition);
+    }
+}
+
+/// Leaves a condition to one event, which marks it: no other event uses it, and that event does so in two of three cases; one that would
+/// touch nothing without it marks it too.
+pub fn leave_to(random: &mut Random, net: &mut Net, condition: u16, owner: usize) {
+    let uses = random.below(3) < 2;
+    for (number, event) in net.events.iter_mut().enumerate() {
+        event.preconditions.retain(|b| *b != condition);
+        let touches = !event.preconditions.is_empty() || !event.postconditions.is_empty();
+        if number == owner || !touches {
+            put_in(&mut event.postconditions, condition);
+        }
+    }
+    if uses {
+        put_in(&mut net.events[owner].preconditions, condition);
+    }
+}
+
+/// A small net with few ordinary conditions, in which half of the persistent ones are left to one event, so that many events that mark
+/// come again and are lifted.
+pub fn repeating_net(random: &mut Random) -> Net {
+    let shape = Shape {
+        conditions: (2, 6),
+        events: (2, 4),
+        persistent: 75,
+        read: [25, 35][random.below(2)],
+        put: [20, 35][random.below(2)],
+        held: [40, 80][random.below(2)],
+    };
+    let mut net = shaped_net(random, &shape);
+    for condition in (0..=u16::MAX).take(net.persistent.len()) {
+        let owner = random.below(net.events.len());
+        if net.persistent[usize::from(condition)] && random.percent(50) {
+            leave_to(random, &mut net, condition, owner);
+        }
+    }
+    net
+}
+
 /// The most unfolded events of a small unfolding, so that all that it reaches can be looked at.
 const MOST_SMALL: u128 = 300;
 
-/// A small net that unfolds, with its unfolding, which is small too.
-pub fn small_unfolding(random: &mut Random) -> (Net, Unfolding) {
+/// A net that unfolds, with its unfolding, which is small too.
+fn unfolding_of(random: &mut Random, any: fn(&mut Random) -> Net) -> (Net, Unfolding) {
     loop {
-        let net = small_net(random);
+        let net = any(random);
         if counts(&net).events > MOST_SMALL {
             continue;
         }
@@ -170,6 +214,16 @@ pub fn small_unfolding(random: &mut Random) -> (Net, Unfolding) {
             return (net, unfolding);
         }
     }
+}
+
+/// A small net that unfolds, with its unfolding, which is small too.
+pub fn small_unfolding(random: &mut Random) -> (Net, Unfolding) {
+    unfolding_of(random, small_net)
+}
+
+/// A small net with many repeats that are lifted, with its unfolding, which is small too.
+pub fn repeating_unfolding(random: &mut Random) -> (Net, Unfolding) {
+    unfolding_of(random, repeating_net)
 }
 
 /// A net of some conditions and events, most of which unfold to at most some thousand.
@@ -531,7 +585,7 @@ pub fn damaged(random: &mut Random, net: &Net) -> Damaged {
 
 // ---- runs and markings
 
-/// How a random walk goes: its steps, how often a step is arbitrary, and whether repeats are avoided, in a hundred.
+/// How a random walk goes: its steps, how often a step is arbitrary, in a hundred, and whether repeats that do not lift are avoided.
 pub struct Walk {
     pub steps: usize,
     pub arbitrary: usize,
@@ -572,17 +626,20 @@ pub fn walk<G: Game>(random: &mut Random, game: &G, events: usize, walk: &Walk) 
         if let Ok(after) = fire(game, &marking, number) {
             marking = after;
         }
-        barred[usize::from(number)] = walk.avoid_repeats && marks_persistent(game, number);
+        barred[usize::from(number)] = walk.avoid_repeats && marks_for_others(game, events, number);
         run.push(number);
     }
     run
 }
 
-/// An event of a played net has a persistent postcondition.
-fn marks_persistent<G: Game>(game: &G, number: u16) -> bool {
+/// An event of a played net marks a persistent condition that another of its events uses, so that a repeat of it does not lift.
+fn marks_for_others<G: Game>(game: &G, events: usize, number: u16) -> bool {
     let persistent = |b: &u16| game.persistent()[usize::from(*b)];
-    game.event(number)
-        .is_some_and(|event| event.postconditions.iter().any(persistent))
+    let mut marked = game.event(number).unwrap_or_default().postconditions;
+    marked.retain(persistent);
+    let uses = |user: &Event| user.preconditions.iter().any(|b| marked.contains(b));
+    let mut others = (0..=u16::MAX).take(events).filter(|user| *user != number);
+    !marked.is_empty() && others.any(|user| game.event(user).is_some_and(|event| uses(&event)))
 }
 
 /// A random way to walk, short or now and then long.

@@ -14,5 +14,6 @@ pub mod listing;
 pub mod plain;
 pub mod records;
 pub mod refusal;
+pub mod repeats;
 pub mod table;
 pub mod unfolding;

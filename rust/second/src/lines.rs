@@ -4,10 +4,13 @@
 use crate::across::{lifted, projected};
 use crate::calls;
 use crate::game::{exchanged, fire, play, Game, Stop};
-use crate::generator::{condition_limit_net, event_limit_net, small_net, walk, Random, Walk};
+use crate::generator::{
+    condition_limit_net, event_limit_net, repeating_unfolding, small_net, walk, Random, Walk,
+};
 use crate::lent::{list_of, marking_of};
 use crate::records::MOST_STEPS;
 use crate::refusal::{Answer, Refusal};
+use crate::repeats::{repeats, Repeat};
 use crate::table::{table_bytes, Event, Net};
 use crate::unfolding::{counts, judge_unfolding, unfold, Marker, UnfoldedEvent, Unfolding};
 
@@ -17,8 +20,9 @@ const MOST_EVENTS: u128 = 300;
 /// The lines in one list, so that no list is too long to check.
 const CHUNK: usize = 50;
 
-/// Every kind of line, with the number of the refusal that it shows (0 for none); those that say most come more often.
-const KINDS: [(&str, u8); 44] = [
+/// Every kind of line, with the number of the refusal that it shows (0 for none), but for 15, which comes with the kinds of repeats; those
+/// that say most come more often.
+const KINDS: [(&str, u8); 43] = [
     ("counts", 0),
     ("lists", 0),
     ("lists", 0),
@@ -49,7 +53,6 @@ const KINDS: [(&str, u8); 44] = [
     ("notLifted", 11),
     ("notLifted", 12),
     ("notLifted", 13),
-    ("notLifted", 15),
     ("projects", 0),
     ("projects", 0),
     ("notProjected", 10),
@@ -313,14 +316,28 @@ fn lift_of(net: &Net, run: &[u16]) -> Answer<(Vec<u16>, Vec<bool>)> {
     Ok((lifted, end))
 }
 
-/// A lift with its end.
-fn lift_line(random: &mut Random, net: &Net) -> Line {
-    let run = short_run(random, net);
+/// A lift of a run with its end.
+fn lift_line(net: &Net, run: &[u16]) -> Line {
     let text = |(lifted, end): &(Vec<u16>, Vec<bool>)| {
         format!("{} {}", list_text(lifted), list_text(&list_of(end)))
     };
-    let answer = lift_of(net, &run);
-    answer_line(net, ("lifts", "notLifted"), &list_text(&run), answer, text)
+    let answer = lift_of(net, run);
+    answer_line(net, ("lifts", "notLifted"), &list_text(run), answer, text)
+}
+
+/// A lift of a random run, if it has the wanted kind of repeat and lifts unless that kind does not.
+fn repeat_line(random: &mut Random, kind: Repeat) -> Option<Line> {
+    let (net, _) = repeating_unfolding(random);
+    let way = Walk {
+        steps: random.between(2, 7),
+        arbitrary: 0,
+        avoid_repeats: random.percent(50),
+    };
+    let run = walk(random, &net, net.events.len(), &way);
+    let kinds = repeats(&net, &run);
+    let is_refused = kinds.iter().any(|kind| kind.is_refused());
+    let wanted = kinds.contains(&kind) && is_refused == kind.is_refused();
+    wanted.then(|| lift_line(&net, &run))
 }
 
 /// A projection.
@@ -364,23 +381,33 @@ fn candidate(random: &mut Random, kind: &str) -> Option<Line> {
         "stops" | "fires" => Some(firing_line(random, &net)),
         "stopsUnfolded" => Some(unfolded_firing_line(random, &net, &unfolding)),
         "plays" | "notPlayed" => Some(replay_line(random, &net)),
-        "lifts" | "notLifted" => Some(lift_line(random, &net)),
+        "lifts" | "notLifted" => {
+            let run = short_run(random, &net);
+            Some(lift_line(&net, &run))
+        }
         "projects" | "notProjected" => Some(project_line(random, &net, &unfolding)),
         _ => Some(exchange_line(random, &net)),
     }
 }
 
-/// So many lines that go round all kinds.
+/// A random line that has what is wanted at a place of the round: a kind and a number, or after those a kind of repeat.
+fn wanted_line(random: &mut Random, place: usize) -> Option<Line> {
+    let Some((kind, number)) = KINDS.get(place) else {
+        return repeat_line(random, Repeat::ALL[place - KINDS.len()].0);
+    };
+    candidate(random, kind).filter(|line| line.kind == *kind && line.number == *number)
+}
+
+/// The lines of one round.
+pub const ROUND: usize = KINDS.len() + Repeat::ALL.len();
+
+/// So many lines that go round all kinds, and all kinds of repeats.
 pub fn lines(count: usize, seed: u64) -> Vec<String> {
     let mut random = Random::new(seed);
     let mut lines = Vec::with_capacity(count);
     while lines.len() < count {
-        let (kind, number) = KINDS[lines.len() % KINDS.len()];
-        let line = candidate(&mut random, kind);
-        lines.extend(
-            line.filter(|line| line.kind == kind && line.number == number)
-                .map(|line| line.text),
-        );
+        let line = wanted_line(&mut random, lines.len() % ROUND);
+        lines.extend(line.map(|line| line.text));
     }
     lines
 }

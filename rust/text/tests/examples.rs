@@ -88,7 +88,15 @@ fn nets_b_and_c() {
     assert!(lifted("net-b.txt", "once").is_ok());
     assert_eq!(lifted("net-c.txt", "once"), Ok(vec![0]));
     assert_eq!(end("net-c.txt", "twice"), [0]);
-    assert_eq!(lifted("net-c.txt", "twice"), refused(15, 1));
+    assert_eq!(lifted("net-c.txt", "twice"), Ok(vec![0, 1]));
+    assert_eq!(unfolded_end("net-c.txt", "twice"), [0, 1]);
+}
+
+#[test]
+fn net_o() {
+    assert_eq!(lifted("net-o.txt", "again"), Ok(vec![0, 4, 6, 6]));
+    assert_eq!(end("net-o.txt", "late"), [0, 1, 2]);
+    assert_eq!(lifted("net-o.txt", "late"), refused(15, 3));
 }
 
 #[test]

@@ -39,6 +39,21 @@ fn net_b() -> Vec<u8> {
     table(&[0, 1], &[(vec![0], vec![0, 1]), (vec![1], vec![])], &[0])
 }
 
+fn net_c() -> Vec<u8> {
+    table(&[1], &[(vec![0], vec![0])], &[0])
+}
+
+/// Net S: event 0 uses and marks [0], which event 1 marks too; events 0 and 2 use [1], which event 3 marks; [3] is used by no event.
+fn net_s(start: &[u16]) -> Vec<u8> {
+    let events = [
+        (vec![0, 1], vec![0, 3]),
+        (vec![2], vec![0, 3]),
+        (vec![1], vec![]),
+        (vec![2], vec![1, 2]),
+    ];
+    table(&[1, 1, 0, 1], &events, start)
+}
+
 fn net_e(start: &[u16]) -> Vec<u8> {
     let events = [(vec![0], vec![2]), (vec![1], vec![2]), (vec![2], vec![])];
     table(&[0, 0, 1], &events, start)
@@ -285,15 +300,65 @@ fn no_condition_is_told_with_any_other_number() {
 }
 
 #[test]
-fn nets_b_and_c_do_not_lift_a_repeat() {
+fn net_b_does_not_lift_a_repeat() {
     let mut driver = driver();
-    let net_c = table(&[1], &[(vec![0], vec![0])], &[0]);
     let mut end = [9; 2];
     assert_eq!(driver.replay(&net_b(), &[0, 0], &mut end), Ok(()));
     assert_eq!(end, [1, 1]);
     assert_eq!(lifted(&mut driver, &net_b(), &[0, 0]), refused(15, 1));
-    assert_eq!(lifted(&mut driver, &net_c, &[0]), Ok(vec![0]));
-    assert_eq!(lifted(&mut driver, &net_c, &[0, 0]), refused(15, 1));
+    assert_eq!(lifted_end(&mut driver, &net_b(), &[0, 0]), refused(15, 1));
+    assert_eq!(lifted(&mut driver, &net_b(), &[0, 1, 1, 0]), refused(15, 3));
+}
+
+#[test]
+fn net_c_lifts_a_repeat_by_its_own_marker() {
+    let (mut driver, table) = (driver(), net_c());
+    assert_eq!(lifted(&mut driver, &table, &[0]), Ok(vec![0]));
+    assert_eq!(lifted(&mut driver, &table, &[0, 0]), Ok(vec![0, 1]));
+    assert_eq!(lifted_end(&mut driver, &table, &[0, 0]), Ok(vec![0, 1]));
+    let longest = lifted(&mut driver, &table, &[0; 4_096]).unwrap();
+    assert_eq!((longest[0], &longest[1..]), (0, &[1; 4_095][..]));
+    let mut back = [9; 3];
+    assert_eq!(driver.project(&table, &[0, 1, 1], &mut back), Ok(()));
+    assert_eq!(back, [0, 0, 0]);
+    stopped_unfolded(&mut driver, &table, &[0, 0], refused_by(12, 1, 1));
+    stopped_unfolded(&mut driver, &table, &[0, 1, 0], refused_by(12, 2, 1));
+}
+
+#[test]
+fn a_repeat_picks_itself_only_for_what_it_marks() {
+    let mut driver = driver();
+    let mut number = |markers: &[u32]| driver.event_number(&net_s(&[]), 0, markers).unwrap();
+    let (by_start, then_by_start) = (number(&[START, START]), number(&[0, START]));
+    let (by_events, then_by_events) = (number(&[1, 3]), number(&[0, 3]));
+    assert_eq!(
+        lifted(&mut driver, &net_s(&[0, 1, 2]), &[0, 0, 0]),
+        Ok(vec![by_start, then_by_start, then_by_start])
+    );
+    let after_others = lifted(&mut driver, &net_s(&[2]), &[3, 1, 0, 0, 0]).unwrap();
+    assert_eq!(
+        after_others[2..],
+        [by_events, then_by_events, then_by_events]
+    );
+}
+
+#[test]
+fn repeats_that_lift_are_passed_over_by_15() {
+    let (mut driver, table) = (driver(), net_s(&[0, 1, 2]));
+    let late = [0, 0, 2, 2, 3, 0, 3];
+    assert_eq!(lifted(&mut driver, &table, &late), refused(15, 6));
+    assert_eq!(lifted_end(&mut driver, &table, &late), refused(15, 6));
+    let unknown = [0, 0, 3, 3, 0, 4];
+    assert_eq!(lifted(&mut driver, &table, &unknown), refused(10, 5));
+    let stopped = [0, 0, 3, 3, 1, 3];
+    assert_eq!(lifted(&mut driver, &table, &stopped), refused_by(11, 5, 2));
+}
+
+#[test]
+fn what_no_event_uses_may_be_marked_again() {
+    let mut driver = driver();
+    let unused = table(&[0, 1], &[(vec![0], vec![0, 1])], &[0]);
+    assert_eq!(lifted(&mut driver, &unused, &[0, 0, 0]), Ok(vec![0, 0, 0]));
 }
 
 #[test]

@@ -1,6 +1,6 @@
 //! The lines for the proved model.
 
-use second::lines::{limit_lines, lines, proofs_module, specs_module};
+use second::lines::{limit_lines, lines, proofs_module, specs_module, ROUND};
 
 #[test]
 fn equal_seeds_give_equal_lines_of_every_kind() {
@@ -23,8 +23,8 @@ fn equal_seeds_give_equal_lines_of_every_kind() {
         "exchanges",
         "notExchanged",
     ];
-    let some = lines(88, 5);
-    assert_eq!(some, lines(88, 5));
+    let some = lines(2 * ROUND, 5);
+    assert_eq!(some, lines(2 * ROUND, 5));
     for kind in kinds {
         let begins = format!("{kind} (net ");
         let is_of = |line: &String| line.trim_start_matches("example (").starts_with(&begins);
@@ -34,7 +34,7 @@ fn equal_seeds_give_equal_lines_of_every_kind() {
 
 #[test]
 fn refusals_11_and_12_are_told_with_their_condition() {
-    let some = lines(440, 5);
+    let some = lines(10 * ROUND, 5);
     let ends = |kind: &str, end: &str| {
         let begins = format!("{kind} (net ");
         let shown = |line: &&String| line.starts_with(&begins) && line.contains(end);
@@ -54,6 +54,20 @@ fn refusals_11_and_12_are_told_with_their_condition() {
         assert!(ends(kind, " (some ") >= 20, "{kind}");
         assert!(ends(kind, " none") > 0, "{kind}");
     }
+}
+
+#[test]
+fn runs_with_repeats_are_lifted_and_refused() {
+    let some = lines(10 * ROUND, 5);
+    let count = |begins: &str, has: &str| {
+        let shown = |line: &&String| line.starts_with(begins) && line.contains(has);
+        some.iter().filter(shown).count()
+    };
+    assert_eq!(count("example (lifts (net ", ""), 30 + 50);
+    let refused: usize = (1..7)
+        .map(|place| count("notLifted (net ", &format!(" 15 {place} none")))
+        .sum();
+    assert_eq!(refused, 30);
 }
 
 #[test]

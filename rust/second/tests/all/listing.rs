@@ -22,6 +22,12 @@ fn net_a_and_0_1_2_1_are_listed_exactly() {
 }
 
 #[test]
+fn a_repeat_that_lifts_is_listed() {
+    let expected = "start 0\n0 0 0 0\n1 0 1 0\n2 0 1 0\nend unfolded 0,1\n";
+    assert_eq!(listing(&net_c(), &run_file(&[0, 0, 0])), expected);
+}
+
+#[test]
 fn an_empty_marking_is_a_dash() {
     let table = table_bytes(&net(&[0], &[(&[0], &[])], &[0]));
     let expected = "start 0\n0 0 0 -\nend unfolded -\n";

@@ -8,6 +8,7 @@ mod listing;
 mod nets;
 mod plain;
 mod properties;
+mod reading_back;
 mod readings;
 mod records;
 mod refusals;

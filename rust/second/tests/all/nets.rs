@@ -117,9 +117,11 @@ fn net_c_unfolds_and_lifts_0() {
 }
 
 #[test]
-fn net_c_replays_0_0_and_does_not_lift_it() {
+fn net_c_replays_0_0_and_lifts_it() {
     assert_eq!(replay(&net_c(), &[0, 0]), Ok(vec![0]));
-    assert_eq!(lift(&net_c(), &[0, 0]), refused(15, 1));
+    assert_eq!(lift(&net_c(), &[0, 0]), Ok(vec![0, 1]));
+    assert_eq!(lifted_end(&net_c(), &[0, 0]), Ok(vec![0, 1]));
+    assert_eq!(lift(&net_c(), &[0, 0, 0, 0]), Ok(vec![0, 1, 1, 1]));
 }
 
 #[test]
@@ -234,6 +236,13 @@ fn the_start_is_a_marker() {
     assert_eq!(calls::event_number(&net_c(), 0, &[Start]), Ok(0));
     assert_eq!(calls::event_number(&net_c(), 0, &[ByEvent(0)]), Ok(1));
     assert_eq!(lift(&net_c(), &[0]), Ok(vec![0]));
+}
+
+#[test]
+fn an_event_that_came_before_does_not_take_the_earliest_marker() {
+    assert_eq!(project(&net_c(), &[0, 0]), refused_by(12, 1, 1));
+    assert_eq!(project(&net_c(), &[0, 1, 0]), refused_by(12, 2, 1));
+    assert_eq!(project(&net_c(), &[1]), refused_by(11, 0, 1));
 }
 
 #[test]

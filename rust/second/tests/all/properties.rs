@@ -6,6 +6,7 @@ use second::generator::*;
 use second::listing::listing;
 use second::records::{read_run, write_run};
 use second::refusal::Refusal;
+use second::repeats::repeats;
 use second::table::{read_table, table_bytes, Event, Net};
 use second::unfolding::{
     counts, markers, persistent_preconditions, unfold, users, CopyFor, Marker, UnfoldedCondition,
@@ -14,11 +15,12 @@ use second::unfolding::{
 
 use crate::common::*;
 
-/// A small or middle net that unfolds, with its unfolding.
+/// A small or middle net that unfolds, with its unfolding; a quarter of them have many repeats that are lifted.
 fn unfolding_net(random: &mut Random) -> (Net, Unfolding) {
     loop {
         let net = match random.below(4) {
             0 => middle_net(random),
+            1 => repeating_net(random),
             _ => small_net(random),
         };
         if counts(&net).events > 5_000 {
@@ -106,54 +108,68 @@ fn correspond(net: &Net, unfolding: &Unfolding, marking: &[bool], unfolded: &[bo
 }
 
 #[test]
-fn a_lift_is_refused_exactly_at_the_first_repeat() {
+fn a_lift_is_refused_exactly_at_the_first_repeat_of_an_event_that_marks_for_another() {
     let mut random = Random::given();
-    let mut refusals = 0;
-    for _ in 0..3_000 {
+    let (mut refusals, mut lifted) = (0, 0);
+    for _ in 0..4_000 {
         let (net, _) = unfolding_net(&mut random);
         let run = firing_run(&mut random, &net, false);
-        let marks = |e: u16| {
-            let after = &net.events[usize::from(e)].postconditions;
-            after.iter().any(|b| net.persistent[usize::from(*b)])
+        let marked = |e: u16| {
+            let after = net.events[usize::from(e)].postconditions.iter().copied();
+            after.filter(|b| net.persistent[usize::from(*b)])
         };
-        let repeats = |step: &usize| marks(run[*step]) && run[..*step].contains(&run[*step]);
-        let expected = (0..run.len()).find(repeats);
+        let for_another = |e: u16| marked(e).any(|b| users(&net, b).iter().any(|u| *u != e));
+        let repeats = |step: &usize| run[..*step].contains(&run[*step]);
+        let expected = (0..run.len()).find(|step| repeats(step) && for_another(run[*step]));
         let answer = lift(&table_bytes(&net), &run);
         assert_eq!(answer.err(), expected.map(|place| Refusal::at(15, place)));
         refusals += usize::from(expected.is_some());
+        let marks_again = |step: usize| repeats(&step) && marked(run[step]).next().is_some();
+        lifted += usize::from(expected.is_none() && (0..run.len()).any(marks_again));
     }
-    assert!(refusals > 100);
+    assert!(refusals > 100 && lifted > 100, "{refusals} {lifted}");
+}
+
+/// What marked a condition first, up to a step of a run.
+fn earliest(net: &Net, run: &[u16], step: usize, b: u16) -> Option<Marker> {
+    if net.start.contains(&b) {
+        return Some(Marker::Start);
+    }
+    let marks = |e: &&u16| net.events[usize::from(**e)].postconditions.contains(&b);
+    let first = run[..step].iter().find(marks);
+    first.map(|e| Marker::ByEvent(*e))
 }
 
 #[test]
-fn each_lifted_step_takes_the_earliest_markers() {
+fn each_lifted_step_takes_itself_or_the_earliest_markers() {
     let mut random = Random::given();
-    let (mut by_start, mut by_event) = (0, 0);
-    for _ in 0..2_000 {
+    let (mut by_start, mut by_event, mut by_itself) = (0, 0, 0);
+    for _ in 0..3_000 {
         let (net, unfolding) = unfolding_net(&mut random);
         let run = firing_run(&mut random, &net, true);
         let lifted = lift(&table_bytes(&net), &run).unwrap();
         for (step, number) in lifted.iter().enumerate() {
-            let unfolded = &unfolding.events[usize::from(*number)];
+            let picked = &unfolding.events[usize::from(*number)].markers;
             let event = &net.events[usize::from(run[step])];
             let read = persistent_preconditions(&net, event);
-            let earliest = |b: &u16| {
-                if net.start.contains(b) {
-                    return Some(Marker::Start);
+            assert_eq!(picked.len(), read.len());
+            for (b, marker) in read.iter().zip(picked) {
+                let again = run[..step].contains(&run[step]);
+                if again && event.postconditions.contains(b) {
+                    assert_eq!(*marker, Marker::ByEvent(run[step]));
+                    by_itself += 1;
+                    continue;
                 }
-                let marks = |e: &&u16| net.events[usize::from(**e)].postconditions.contains(b);
-                let first = run[..step].iter().find(marks);
-                first.map(|e| Marker::ByEvent(*e))
-            };
-            let expected: Option<Vec<Marker>> = read.iter().map(earliest).collect();
-            assert_eq!(Some(unfolded.markers.clone()), expected);
-            let starts = |marker: &&Marker| **marker == Marker::Start;
-            let picked = unfolded.markers.iter().filter(starts).count();
-            by_start += picked;
-            by_event += unfolded.markers.len() - picked;
+                assert_eq!(Some(*marker), earliest(&net, &run, step, *b));
+                match marker {
+                    Marker::Start => by_start += 1,
+                    Marker::ByEvent(_) => by_event += 1,
+                }
+            }
         }
     }
-    assert!(by_start > 1_000 && by_event > 300, "{by_start} {by_event}");
+    let counts = [by_start, by_event, by_itself];
+    assert!(counts.iter().all(|count| *count > 500), "{counts:?}");
 }
 
 #[test]
@@ -286,8 +302,8 @@ fn unfolded_lists_ascend_and_touch_something() {
 #[test]
 fn an_exchange_keeps_the_end_and_lifts_differ_by_it_alone() {
     let mut random = Random::given();
-    let mut made = 0;
-    for _ in 0..6_000 {
+    let (mut made, mut repeated) = (0, 0);
+    for _ in 0..10_000 {
         let (net, _) = unfolding_net(&mut random);
         let table = table_bytes(&net);
         let run = firing_run(&mut random, &net, true);
@@ -296,6 +312,7 @@ fn an_exchange_keeps_the_end_and_lifts_differ_by_it_alone() {
             continue;
         };
         made += 1;
+        repeated += usize::from(!repeats(&net, &run).is_empty());
         let mut swapped = run.clone();
         swapped.swap(k, k + 1);
         assert_eq!(other, swapped);
@@ -305,7 +322,29 @@ fn an_exchange_keeps_the_end_and_lifts_differ_by_it_alone() {
         assert_eq!(lift(&table, &other), Ok(lifted));
         assert_eq!(exchange(&table, &other, k), Ok(run));
     }
-    assert!(made > 500, "{made}");
+    assert!(made > 500 && repeated > 100, "{made} {repeated}");
+}
+
+#[test]
+fn an_exchange_keeps_whether_a_run_lifts() {
+    let mut random = Random::given();
+    let (mut lifted, mut refusals) = (0, 0);
+    for _ in 0..6_000 {
+        let (net, _) = unfolding_net(&mut random);
+        let table = table_bytes(&net);
+        let run = firing_run(&mut random, &net, false);
+        let k = random.below(run.len());
+        let Ok(other) = exchange(&table, &run, k) else {
+            continue;
+        };
+        let numbers = [run, other].map(|run| lift(&table, &run).map_err(|refusal| refusal.number));
+        match numbers {
+            [Ok(_), Ok(_)] => lifted += 1,
+            [Err(15), Err(15)] => refusals += 1,
+            differ => panic!("{net:?} {differ:?}"),
+        }
+    }
+    assert!(lifted > 100 && refusals > 100, "{lifted} {refusals}");
 }
 
 #[test]

@@ -3,6 +3,8 @@
 use second::calls;
 use second::records::{record_bytes, word_bytes, CONDITIONS, EVENT, MARKING};
 use second::table::{event_bytes, table_bytes};
+use second::unfolding::Marker;
+use second::unfolding::Marker::{ByEvent, Start};
 
 use crate::common::*;
 
@@ -49,6 +51,59 @@ fn the_place_of_15_is_the_first_second_occurrence() {
     let events: [(&[u16], &[u16]); 3] = [(&[], &[0]), (&[], &[1]), (&[0, 1], &[])];
     let table = table_bytes(&net(&[1, 1], &events, &[]));
     assert_eq!(lift(&table, &[0, 1, 2, 2, 1, 0, 1]), refused(15, 4));
+}
+
+/// Net S: event 0 uses and marks [0], which event 1 marks too; events 0 and 2 use [1], which event 3 marks; [3] is used by no event.
+fn net_s(start: &[u16]) -> Vec<u8> {
+    let events: [(&[u16], &[u16]); 4] = [
+        (&[0, 1], &[0, 3]),
+        (&[2], &[0, 3]),
+        (&[1], &[]),
+        (&[2], &[1, 2]),
+    ];
+    table_bytes(&net(&[1, 1, 0, 1], &events, start))
+}
+
+#[test]
+fn a_later_occurrence_picks_itself_only_for_what_it_marks() {
+    let number = |markers: &[Marker]| calls::event_number(&net_s(&[]), 0, markers).unwrap();
+    let table = net_s(&[0, 1, 2]);
+    let (first, later) = (number(&[Start, Start]), number(&[ByEvent(0), Start]));
+    assert_eq!(lift(&table, &[0, 0, 0]), Ok(vec![first, later, later]));
+    let table = net_s(&[2]);
+    let (first, later) = (
+        number(&[ByEvent(1), ByEvent(3)]),
+        number(&[ByEvent(0), ByEvent(3)]),
+    );
+    let lifted = lift(&table, &[3, 1, 0, 0, 0]).unwrap();
+    assert_eq!(lifted[2..], [first, later, later]);
+}
+
+#[test]
+fn repeats_that_lift_are_passed_over_by_15() {
+    let table = net_s(&[0, 1, 2]);
+    assert_eq!(lift(&table, &[0, 0, 2, 2, 3, 0, 3]), refused(15, 6));
+    assert_eq!(lifted_end(&table, &[3, 0, 0, 3, 0, 3]), refused(15, 3));
+    assert_eq!(lift(&table, &[0, 0, 3, 3, 0, 4]), refused(10, 5));
+    assert_eq!(lift(&table, &[0, 0, 3, 3, 1, 3]), refused_by(11, 5, 2));
+}
+
+#[test]
+fn what_no_event_uses_may_be_marked_again() {
+    let table = table_bytes(&net(&[0, 1], &[(&[0], &[0, 1])], &[0]));
+    assert_eq!(lift(&table, &[0, 0, 0]), Ok(vec![0, 0, 0]));
+    let events: [(&[u16], &[u16]); 2] = [(&[0], &[0, 1]), (&[0, 1], &[0])];
+    let table = table_bytes(&net(&[0, 1], &events, &[0, 1]));
+    assert_eq!(lift(&table, &[0, 1, 1, 0]), refused(15, 3));
+}
+
+#[test]
+fn one_condition_that_another_event_uses_is_enough_for_15() {
+    let events: [(&[u16], &[u16]); 2] = [(&[0, 1], &[0, 1, 2]), (&[1], &[])];
+    let table = table_bytes(&net(&[1, 1, 1], &events, &[0, 1]));
+    assert_eq!(lift(&table, &[0, 1, 0]), refused(15, 2));
+    let alone = table_bytes(&net(&[1, 1, 1], &events[..1], &[0, 1]));
+    assert_eq!(lift(&alone, &[0, 0]), Ok(vec![0, 3]));
 }
 
 #[test]
