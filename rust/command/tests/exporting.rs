@@ -241,7 +241,7 @@ fn the_page_counts_the_markings_of_the_unfolded_nets() {
         );
         counted += 1;
     }
-    assert!(counted >= 9, "{counted}");
+    assert_eq!(counted, 10);
 }
 
 #[test]
