@@ -39,7 +39,7 @@
  *   12  contact                                                  the condition; in a run, the step
  *   13  an event touches nothing once unfolded                   the lowest such event
  *   14  over 65,535 unfolded conditions or events                0
- *   15  an event with a persistent postcondition comes twice     the first step at which such an event comes again
+ *   15  an event comes twice and marks what another one uses     the first step at which such an event comes again
  *   16  a lent output is too short                               the number of elements needed
  *   17  two steps may not change places                          k
  *   18  a lent marking of another length                         the number of conditions
@@ -186,7 +186,8 @@ struct dovetrellis_answer dovetrellis_unfolded_fire(const uint8_t *table, size_t
 /* ---- runs across ---- */
 
 /*
- * Lifts a run of the table, each persistent precondition taking its earliest marker; as many numbers are written as the run has steps.
+ * Lifts a run of the table; as many numbers are written as the run has steps. Each persistent precondition takes its earliest marker, but
+ * an event that occurred before takes itself for those that it marks.
  * Refusals: the table's, 3 at 0, 13, 14, 10 to 12 at the step, 15 at the step, 16 (counts steps).
  */
 struct dovetrellis_answer dovetrellis_lift(const uint8_t *table, size_t table_length, const uint16_t *run, size_t run_length,
