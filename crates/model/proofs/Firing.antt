@@ -1,6 +1,6 @@
 -- Concession and firing at one condition: what every later theorem uses of the rule.
-use mathlib.Core.Path.{_≡_, refl, subst}
-use mathlib.Core.Bool.{Bool, true, false, not, _&&_, _||_}
+use mathlib.Core.Path.{_≡_, refl, _∙_, ap, subst}
+use mathlib.Core.Bool.{Bool, true, false, not, _&&_, _||_, and-true, and-false}
 use mathlib.Core.Logic.{_⊎_, inl, inr}
 use mathlib.Core.Option.{Option, none, some}
 use mathlib.Core.List.{List, [], _∷_, _++_, List·Memᴰ·not-nil, List·Memᴰ·cases-cons}
@@ -9,7 +9,7 @@ use lib.Dec.{T, ltb, ltb→lt}
 use lib.ListN.{length, getD}
 use native.Mathlib.Omega.{arith}
 use Rattle.lists.specs.Lists.{mem, nothing, _∈_}
-use Rattle.lists.proofs.Bools.{T-of, and-left, and-right, and-both, or-left, or-right, imp-or}
+use Rattle.lists.proofs.Bools.{T-of, and-left, and-right, and-both, or-left, or-right, or-none, imp-or}
 use Rattle.lists.proofs.Tests.{failing-at, failing-of}
 use Rattle.lists.proofs.Places.{in-at, at-some}
 use Rattle.model.specs.Net.{Net, Marking, lacking, free, contact, concession, can, fire, firstStop, stopping}
@@ -74,11 +74,22 @@ runs-event n m r k t h = runs-events n m r t (getD r k 0) (in-at r k (at-some r 
 
 pub free-persistent : (n : Net) (e b : ℕ) → n .persistent b ≡ true → T (free n e b)
 unfolding free
-free-persistent n e b p = or-left (n .persistent b) (mem b (n .preconditions e)) (T-of (n .persistent b) p)
+free-persistent n e b p = or-left (n .persistent b) (mem b (n .preconditions e) && not (n .old b)) (T-of (n .persistent b) p)
 
 pub free-pre : (n : Net) (e b : ℕ) → n .persistent b ≡ false → T (free n e b) → T (mem b (n .preconditions e))
 unfolding free
-free-pre n e b p t = subst (λ (x : Bool). T (x || mem b (n .preconditions e))) p t
+free-pre n e b p t =
+    and-left (mem b (n .preconditions e)) (not (n .old b)) (subst (λ (x : Bool). T (x || mem b (n .preconditions e) && not (n .old b))) p t)
+
+-- by the paper's rule, at a condition that follows it
+pub free-taken : (n : Net) (e b : ℕ) → n .old b ≡ false → free n e b ≡ (n .persistent b || mem b (n .preconditions e))
+unfolding free
+free-taken n e b q = rw q (ap (λ (x : Bool). n .persistent b || x) (and-true (mem b (n .preconditions e))))
+
+-- by the old rule, likewise
+pub free-never : (n : Net) (e b : ℕ) → n .old b ≡ true → free n e b ≡ n .persistent b
+unfolding free
+free-never n e b q = rw q (ap (λ (x : Bool). n .persistent b || x) (and-false (mem b (n .preconditions e))) ∙ or-none (n .persistent b))
 
 -- ---- concession, used and shown at one condition
 

@@ -107,14 +107,13 @@ module _ (n : Net) (l : Lifting) (law : Lawful n l) (s : State) (u : Marking) (i
   no-clash k (ordinary b) a q t h =
       subst T (sym (free-ordinary n j k b a q ∙ ap (λ (x : UnfoldedEvent). free n (x .event) b) lift-origin)) (unblocked n (s .marking) e (can-concession n (s .marking) e c) b t h)
   no-clash k (copy b q v) a p t h =
-      free-copy n j k b q v a
-      (subst T (sym (takes-here k (copy b q v) a))
+      subst T (sym (free-copy n j k b q v a ∙ takes-here k (copy b q v) a))
       (or-cases (takes n this (copy b q v)) (sameMarker q (byEvent e) && mem b (n .postconditions e)) t (λ t. t)
       (λ t.
       let x = sameMarker-eq q (byEvent e) (and-left (sameMarker q (byEvent e)) (mem b (n .postconditions e)) t) in
       let y : T (s .seen e && mem b (n .postconditions e)) = subst (λ (q : Marker). T (marked n s q b)) x h in
       subst (λ (q : Marker). T (takes n this (copy b q v))) (sym x)
-      (takes-own b v p (pair-of n (copy b q v) (in-at (unfoldedConditions n) k a) .1) (and-left (s .seen e) (mem b (n .postconditions e)) y) (and-right (s .seen e) (mem b (n .postconditions e)) y)))))
+      (takes-own b v p (pair-of n (copy b q v) (in-at (unfoldedConditions n) k a) .1) (and-left (s .seen e) (mem b (n .postconditions e)) y) (and-right (s .seen e) (mem b (n .postconditions e)) y))))
 
   lift-post : (k : ℕ) → T (mem k (basic n .postconditions j)) → T (u k) → T (free (basic n) j k)
   lift-post k t h =

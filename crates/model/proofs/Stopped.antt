@@ -52,13 +52,15 @@ module _ (n : Net) (m : Marking) (e : ℕ) where
 
   touched-is : (c : ℕ) → touched n m e c ≡ (mem c (n .postconditions e) && not (not (m c) || free n e c))
   unfolding touched free
-  touched-is c = go (mem c (n .postconditions e)) (m c) (n .persistent c) (mem c (n .preconditions e))
+  touched-is c = go (mem c (n .postconditions e)) (m c) (n .persistent c) (mem c (n .preconditions e)) (n .old c)
     where
-      go : (a h p q : Bool) → (a && (h && (not p && not q))) ≡ (a && not (not h || (p || q)))
-      go true true true q = refl
-      go true true false q = refl
-      go true false p q = refl
-      go false h p q = refl
+      go : (a h p q o : Bool) → (a && (h && (not p && (not q || o)))) ≡ (a && not (not h || (p || q && not o)))
+      go true true true q o = refl
+      go true true false true true = refl
+      go true true false true false = refl
+      go true true false false o = refl
+      go true false p q o = refl
+      go false h p q o = refl
 
   all-hold : (lacking n m e ≡ none) ↔ ((c : ℕ) → T (mem c (n .preconditions e)) → T (m c))
   unfolding lacking
@@ -105,9 +107,9 @@ module _ (n : Net) (m : Marking) (e : ℕ) where
     -- So contact is never told at a persistent condition.
     pub meets-ordinary : (b : ℕ) → stopping n m e ≡ some (meets b) → n .persistent b ≡ false
     unfolding touched
-    meets-ordinary b q = ordinary (mem b (n .postconditions e)) (m b) (n .persistent b) (mem b (n .preconditions e)) (stopping-exactly (meets b) .0 q .2 .passes)
+    meets-ordinary b q = ordinary (mem b (n .postconditions e)) (m b) (n .persistent b) (not (mem b (n .preconditions e)) || n .old b) (stopping-exactly (meets b) .0 q .2 .passes)
       where
-        ordinary : (a h p q : Bool) → T (a && (h && (not p && not q))) → p ≡ false
+        ordinary : (a h p q : Bool) → T (a && (h && (not p && q))) → p ≡ false
         ordinary true true false q t = refl
         ordinary true true true q t = absurd t
         ordinary true false p q t = absurd t

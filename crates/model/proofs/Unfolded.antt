@@ -1,6 +1,6 @@
 -- Which unfolded conditions and events there are, and what the lists of the unfolded net hold.
-use mathlib.Core.Path.{_≡_, refl, sym, _∙_, ap, subst}
-use mathlib.Core.Bool.{Bool, true, false, _&&_, cond}
+use mathlib.Core.Path.{_≡_, refl, sym, _∙_, ap, ap₂, subst}
+use mathlib.Core.Bool.{Bool, true, false, not, _&&_, cond}
 use mathlib.Core.Logic.{_⊎_, inl, inr}
 use mathlib.Core.Option.{some}
 use mathlib.Core.List.{List, [], _∷_, map, List·Memᴰ·head, List·Memᴰ·tail, List·Memᴰ·not-nil, List·Memᴰ·cases-cons, Memᴰ·map, Memᴰ·of-map, List·Memᴰ·eq-of-singleton}
@@ -14,7 +14,8 @@ use Rattle.lists.proofs.Members.{mem-in, spread-in, spread-out, keep-in, count-
 use Rattle.lists.proofs.Places.{in-at, at-some, hit, mem-places, hit-out}
 use Rattle.model.specs.Net.{Net, begin, free}
 use Rattle.model.specs.Runs.{Marker, atStart, byEvent}
-use Rattle.model.specs.Unfolding.{sameMarker, UnfoldedCondition, ordinary, copy, markers, users, copies, unfoldedConditions, UnfoldedEvent, reads, choices, colours, unfoldedEvents, picked, takes, puts, begins, origin, basic}
+use Rattle.model.specs.Unfolding.{sameMarker, UnfoldedCondition, ordinary, copy, markers, users, copies, unfoldedConditions, UnfoldedEvent, reads, choices, colours, unfoldedEvents, picked, takes, puts, begins, follows, origin, basic}
+use Rattle.model.proofs.Firing.{free-taken}
 
 pub sameMarker-refl : (m : Marker) → T (sameMarker m m)
 sameMarker-refl atStart = tt
@@ -184,14 +185,19 @@ module _ (n : Net) where
   unfolding basic
   in-post j k t = hit-out (puts n (origin n j)) (getElem? (unfoldedConditions n) k) (subst T (mem-places (puts n (origin n j)) (unfoldedConditions n) k) t)
 
-  -- an ordinary condition blocks in the unfolded net as in the table; a copy that is taken does not block
-  pub free-ordinary : (j k b : ℕ) → getElem? (unfoldedConditions n) k ≡ some (ordinary b) → n .persistent b ≡ false → free (basic n) j k ≡ free n (origin n j .event) b
-  unfolding free takes basic
-  free-ordinary j k b h p = takes-at j k (ordinary b) h ∙ rw p
+  -- the rule that an unfolded condition follows
+  pub follows-at : (k : ℕ) (p : UnfoldedCondition) → getElem? (unfoldedConditions n) k ≡ some p → basic n .old k ≡ follows n p
+  unfolding basic
+  follows-at k p e = mem-places (follows n) (unfoldedConditions n) k ∙ ap (hit (follows n)) e
 
-  pub free-copy : (j k b : ℕ) (m : Marker) (v : ℕ) → getElem? (unfoldedConditions n) k ≡ some (copy b m v) → T (mem k (basic n .preconditions j)) → T (free (basic n) j k)
-  unfolding free basic
-  free-copy j k b m v h t = t
+  -- an ordinary condition blocks in the unfolded net as in the table; a copy blocks by the paper's rule
+  pub free-ordinary : (j k b : ℕ) → getElem? (unfoldedConditions n) k ≡ some (ordinary b) → n .persistent b ≡ false → free (basic n) j k ≡ free n (origin n j .event) b
+  unfolding free takes follows basic
+  free-ordinary j k b h p = ap₂ {C = Bool} (λ x y. x && not y) (takes-at j k (ordinary b) h) (follows-at k (ordinary b) h) ∙ rw p
+
+  pub free-copy : (j k b : ℕ) (m : Marker) (v : ℕ) → getElem? (unfoldedConditions n) k ≡ some (copy b m v) → free (basic n) j k ≡ mem k (basic n .preconditions j)
+  unfolding follows basic
+  free-copy j k b m v h = free-taken (basic n) j k (follows-at k (copy b m v) h)
 
   pub begins-at : (k : ℕ) (p : UnfoldedCondition) → getElem? (unfoldedConditions n) k ≡ some p → begin (basic n) k ≡ begins n p
   unfolding basic begin

@@ -24,16 +24,30 @@ infix 60 _↝_
 abbrev pub _↝_ : List ℕ → List ℕ → Row
 a ↝ z = record { before = a; after = z }
 
--- A net from the kinds of its conditions (0 ordinary, 1 persistent), its rows and its start (01, Nets to test with).
+-- A net from the kinds of its conditions (0 ordinary, 1 persistent), its rows and its start, at rule 0 (01, Nets to test with).
 unfoldable pub net : List ℕ → List Row → List ℕ → Net
 net kinds rows s =
     record {
       conditions = length kinds;
       persistent = λ b. eqb (getD kinds b 0) 1;
+      old = λ b. false;
       events = length rows;
       preconditions = λ e. getD rows e ([] ↝ []) .before;
       postconditions = λ e. getD rows e ([] ↝ []) .after;
       start = s;
+    }
+
+-- The same net at rule 1 (02, No. 4).
+unfoldable pub underOld : Net → Net
+underOld n =
+    record {
+      conditions = n .conditions;
+      persistent = n .persistent;
+      old = λ b. true;
+      events = n .events;
+      preconditions = n .preconditions;
+      postconditions = n .postconditions;
+      start = n .start;
     }
 
 -- Lists of one, two, three and four numbers.
@@ -96,6 +110,11 @@ netU = net (two 0 1) ((one 0 ↝ two 0 1) ∷ []) (one 0)
 unfoldable pub netS : Net
 unfolding net one two three four
 netS = net (four 1 0 0 0) ((two 1 2 ↝ []) ∷ ([] ↝ three 0 2 3) ∷ []) []
+
+-- Net K, whose event 0 keeps condition 0, reads the persistent condition 2 and puts condition 1, which event 1 takes.
+unfoldable pub netK : Net
+unfolding net one two three
+netK = net (three 0 0 1) ((two 0 2 ↝ two 0 1) ∷ (one 1 ↝ one 2) ∷ []) (two 0 2)
 
 -- The net at the limit of unfolded events, with further conditions and rows that are given: the conditions are numbered from
 -- 15 on, the events from 27 on (01, Nets to test with: limits).
@@ -245,9 +264,9 @@ table =
     ∷ []
 
 -- Further lines: the examples not marked P, the limits, and the points on which a reader might doubt (01, Nets to test with,
--- Errors that look right and Refusal numbers; 02, No. 3).
+-- Errors that look right and Refusal numbers; 02, No. 3 and No. 4).
 unfoldable pub further : List Line
-unfolding netA netB netC netD netE netR netO netU netS netL netW one two three four
+unfolding underOld netA netB netC netD netE netR netO netU netS netK netL netW one two three four
 further =
     plays netC (two 0 0) (one 0)
     ∷ lifts netC (three 0 0 0) (three 0 1 1) (two 0 1)
@@ -294,6 +313,23 @@ further =
     ∷ notLifted netS (two 1 1) 12 1 (some 2)
     ∷ notExchanged netS (two 1 0) 0 11 1 (some 1)
     ∷ notProjected netC (two 0 0) 12 1 (some 1)
+    ∷ fires netK (two 0 2) 0 (three 0 1 2)
+    ∷ stops (underOld netK) (two 0 2) 0 12 0
+    ∷ stops netK (three 0 1 2) 0 12 1
+    ∷ stops (underOld netK) (three 0 1 2) 0 12 0
+    ∷ stops (underOld netK) (one 0) 0 11 2
+    ∷ fires (underOld netK) (two 1 2) 1 (one 2)
+    ∷ plays netK (three 0 1 0) (three 0 1 2)
+    ∷ notPlayed (underOld netK) (three 0 1 0) 12 0 (some 0)
+    ∷ lifts netK (three 0 1 0) (three 0 2 0) (four 0 1 2 3)
+    ∷ notLifted (underOld netK) (three 0 1 0) 12 0 (some 0)
+    ∷ lists netK 0 (two 0 2) (three 0 1 2)
+    ∷ lists (underOld netK) 0 (two 0 2) (three 0 1 2)
+    ∷ projects netK (three 0 2 0) (three 0 1 0)
+    ∷ notProjected (underOld netK) (three 0 2 0) 12 0 (some 0)
+    ∷ lifts (underOld netC) (two 0 0) (two 0 1) (two 0 1)
+    ∷ lifts (underOld (netA (one 0))) (four 0 1 2 1) (four 0 2 3 2) (two 3 4)
+    ∷ exchanges (underOld (netE (three 0 1 2))) (three 0 1 2) 0 (three 1 0 2)
     ∷ notLifted netC (replicate 4097 0) 3 0 none
     ∷ notProjected netC (replicate 4097 0) 3 0 none
     ∷ notExchanged netC (replicate 4097 0) 0 3 0 none

@@ -6,11 +6,12 @@ use Prim.Native.Nat.{ℕ, _<_}
 use lib.Dec.{T, ltb}
 use Rattle.lists.specs.Lists.{mem, ascending, failing, nothing}
 
--- A net has so many conditions and events, each numbered from 0, some conditions persistent, two lists for each event, and
--- the conditions that hold at the start (01, Table records; paper, section 5).
+-- A net has so many conditions and events, each numbered from 0, some conditions persistent, some under the old rule, two lists
+-- for each event, and the conditions that hold at the start (01, Table records; 02, No. 4; paper, section 5).
 pub record Net : Type 0 where
   pub conditions : ℕ
   pub persistent : ℕ → Bool
+  pub old : ℕ → Bool
   pub events : ℕ
   pub preconditions : ℕ → List ℕ
   pub postconditions : ℕ → List ℕ
@@ -39,10 +40,10 @@ begin n = λ b. mem b (n .start)
 unfoldable pub lacking : Net → Marking → ℕ → Option ℕ
 lacking n m e = failing m (n .preconditions e)
 
--- A holding postcondition is free, so that it does not block e, if it is persistent or also a precondition of e (01, Playing
--- the table; paper, section 5).
+-- A holding postcondition is free, so that it does not block e, if it is persistent, or also a precondition of e and not under
+-- the old rule (01, Playing the table; 02, No. 4; paper, section 5).
 unfoldable pub free : Net → ℕ → ℕ → Bool
-free n e b = n .persistent b || mem b (n .preconditions e)
+free n e b = n .persistent b || mem b (n .preconditions e) && not (n .old b)
 
 -- The lowest postcondition of e that holds and is not free, if there is one: refusal 12, contact (01, Playing the table).
 unfoldable pub contact : Net → Marking → ℕ → Option ℕ

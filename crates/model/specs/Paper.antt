@@ -1,5 +1,5 @@
--- The paper's own definitions in set notation: the executable ones are proved to be these (proofs/Rule, proofs/Sets), so that
--- nobody has to believe that our lists are its sets.
+-- The paper's own definitions in set notation, and the old rule beside them: the executable ones are proved to be these
+-- (proofs/Rule, proofs/Sets), so that nobody has to believe that our lists are its sets.
 use mathlib.Core.Path.{_≡_}
 use mathlib.Core.Logic.{_⊎_, _↔_}
 use mathlib.Core.Option.{some}
@@ -83,15 +83,26 @@ pub record Concession (n : Net) (M : Set ℕ) (e : ℕ) : Type 0 where
   pub all-hold : pre n e ⊆ M
   pub no-contact : (M ∖ (pre n e ∪ P n)) ∩ post n e ≐ ∅
 
--- M —e→ M′: concession, and M′ = (M ∖ •e) ∪ e• ∪ (M ∩ P) (paper, section 5).
-pub record Fires (n : Net) (M : Set ℕ) (e : ℕ) (M′ : Set ℕ) : Type 0 where
-  pub concession : Concession n M e
+-- Concession by the old rule: •e ⊆ M and (M ∖ P) ∩ e• = ∅, so that a precondition is no excuse (001, Boolean marking; 02, No. 4).
+pub record OldConcession (n : Net) (M : Set ℕ) (e : ℕ) : Type 0 where
+  pub all-hold : pre n e ⊆ M
+  pub no-contact : (M ∖ P n) ∩ post n e ≐ ∅
+
+-- M —e→ M′ where concession is that of a rule: it is given, and M′ = (M ∖ •e) ∪ e• ∪ (M ∩ P) (paper, section 5; 02, No. 4).
+pub record Fires (Rule : Net → Set ℕ → ℕ → Type 0) (n : Net) (M : Set ℕ) (e : ℕ) (M′ : Set ℕ) : Type 0 where
+  pub concession : Rule n M e
   pub result : M′ ≐ (M ∖ pre n e) ∪ post n e ∪ (M ∩ P n)
 
 -- M —e→ M′ in a basic net: •e ⊆ M, (M ∖ •e) ∩ e• = ∅, and M′ = (M ∖ •e) ∪ e• (paper, section 3).
 pub record BasicFires (n : Net) (M : Set ℕ) (e : ℕ) (M′ : Set ℕ) : Type 0 where
   pub all-hold : pre n e ⊆ M
   pub no-contact : (M ∖ pre n e) ∩ post n e ≐ ∅
+  pub result : M′ ≐ (M ∖ pre n e) ∪ post n e
+
+-- The same where taking excuses only the conditions in K: (M ∖ (•e ∩ K)) ∩ e• = ∅ (02, No. 4).
+pub record MixedFires (K : Set ℕ) (n : Net) (M : Set ℕ) (e : ℕ) (M′ : Set ℕ) : Type 0 where
+  pub all-hold : pre n e ⊆ M
+  pub no-contact : (M ∖ (pre n e ∩ K)) ∩ post n e ≐ ∅
   pub result : M′ ≐ (M ∖ pre n e) ∪ post n e
 
 -- ---- the unfolding
@@ -151,3 +162,7 @@ chosen n x b k = T (picked (reads n (x .event)) (x .colour) b k)
 -- The unfolded conditions that a list names by their numbers.
 abbrev pub named : Net → List ℕ → Set UnfoldedCondition
 named n l = λ p. (k : ℕ) × (k ∈ l) × (getElem? (unfoldedConditions n) k ≡ some p)
+
+-- The numbers of the copies of persistent conditions, which keep the paper's rule where the table has the old one (02, No. 4).
+abbrev pub copied : Net → Set ℕ
+copied n = λ k. (b : ℕ) × (m : Marker) × (u : ℕ) × (getElem? (unfoldedConditions n) k ≡ some (copy b m u))

@@ -1,6 +1,6 @@
 -- What is promised of a stopped step: by which condition, the lowest of those that stop it.
 use mathlib.Core.Path.{_≡_}
-use mathlib.Core.Bool.{Bool, not, _&&_}
+use mathlib.Core.Bool.{Bool, not, _&&_, _||_}
 use mathlib.Core.List.{List, _∷_, _++_}
 use Prim.Native.Nat.{ℕ, _+_, _<_, _≤_}
 use lib.Dec.{T}
@@ -20,10 +20,10 @@ pub record Least (P : ℕ → Bool) (b : ℕ) : Type 0 where
 unfoldable pub lacked : Net → Marking → ℕ → ℕ → Bool
 lacked n m e b = mem b (n .preconditions e) && not (m b)
 
--- An event is in contact on a condition that is a postcondition of it, ordinary, holds, and is no precondition of it (01, Playing
--- the table).
+-- An event is in contact on a condition that is a postcondition of it, ordinary, holds, and is no precondition of it or under the old
+-- rule (01, Playing the table; 02, No. 4).
 unfoldable pub touched : Net → Marking → ℕ → ℕ → Bool
-touched n m e b = mem b (n .postconditions e) && (m b && (not (n .persistent b) && not (mem b (n .preconditions e))))
+touched n m e b = mem b (n .postconditions e) && (m b && (not (n .persistent b) && (not (mem b (n .preconditions e)) || n .old b)))
 
 -- A number is stopped because it is that of no event; an event by the lowest condition that it lacks, or, where all its preconditions
 -- hold, by the lowest on which it is in contact (02, No. 2).

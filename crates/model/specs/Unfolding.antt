@@ -96,6 +96,11 @@ unfoldable pub begins : Net → UnfoldedCondition → Bool
 begins n (ordinary b) = mem b (n .start)
 begins n (copy b m u) = sameMarker m atStart && mem b (n .start)
 
+-- What stands for an ordinary condition follows its rule; the copies of persistent ones follow the paper's (02, No. 4).
+unfoldable pub follows : Net → UnfoldedCondition → Bool
+follows n (ordinary b) = n .old b
+follows n (copy b m u) = false
+
 -- ---- the unfolded net
 
 -- The unfolded event behind a number; where there is none, one of event 0 that nobody may ask for (01, Runs across).
@@ -105,11 +110,12 @@ origin n j = getD (unfoldedEvents n) j (record { event = 0; colour = [] })
 
 -- The unfolded net is a net as any other, with every condition ordinary, so that the same rule plays it (01, Unfolding).
 unfoldable pub basic : Net → Net
-unfolding unfoldedConditions unfoldedEvents takes puts begins origin
+unfolding unfoldedConditions unfoldedEvents takes puts begins follows origin
 basic n =
     record {
       conditions = length (unfoldedConditions n);
       persistent = λ b. false;
+      old = λ b. mem b (places-from 0 (follows n) (unfoldedConditions n));
       events = length (unfoldedEvents n);
       preconditions = λ j. places-from 0 (takes n (origin n j)) (unfoldedConditions n);
       postconditions = λ j. places-from 0 (puts n (origin n j)) (unfoldedConditions n);
