@@ -4,9 +4,10 @@ use native.Mathlib.Nat.{mul-mod-right}
 use native.Mathlib.Omega.{arith}
 use mathlib.Core.Path.{_≡_, refl, sym, ap, _∙_}
 use mathlib.Core.List.{List, [], _∷_, _++_, append-nil, append-assoc, map}
-use mathlib.Core.Bool.{Bool, true, false}
+use mathlib.Core.Bool.{Bool, true, false, cond}
 use lib.Dec.{T, eqb}
 use lib.ListN.{length, getD, drop, length-append}
+use lib.Seq.{getD-drop}
 use borrow.Author.Tests.{eq-eqb, ne-eqb}
 use Rattle.lists.specs.Lists.{count, fits}
 use Rattle.lists.proofs.Bools.{is-true}
@@ -22,10 +23,12 @@ use Rattle.refusal.specs.declared.Judged.{Judged}
 use Rattle.refusal.specs.declared.Judged.the-variants.{Fine}
 use Rattle.refusal.specs.Answer.{andThen}
 use Rattle.records.specs.declared.Header.{Header}
-use Rattle.records.specs.Records.{part, conditions, flags, preCount, postCount, prePart, postPart, markingPart}
-use Rattle.rules.specs.Rules.{conditionsOf}
+use Rattle.records.specs.Records.{part, oldRule, front, conditions, flags, preCount, postCount, prePart, postPart, markingPart}
+use Rattle.records.proofs.Headers.{known}
+use Rattle.records.proofs.First.{front-ruled, front-plain, rule-ruled, rule-plain}
+use Rattle.rules.specs.Rules.{ruleOf, conditionsOf}
 use Rattle.event_rules.specs.EventRules.{eventOf}
-use Rattle.rules.proofs.Made.{conditions-made, marking-made}
+use Rattle.rules.proofs.Made.{rule-made, rule-none, conditions-made, marking-made}
 use Rattle.event_rules.proofs.Made.{event-made}
 use Rattle.table.specs.Walk.{kindIs, eventsFrom, judgeOf, offsetFrom}
 use Rattle.table.specs.Decoded.{netIf, netOf}
@@ -173,38 +176,73 @@ module _ (n : Net) (t : Tabled n) (s : List ℕ) (c : conditions s ≡ n .condit
       let few = t .few-events in
       event-before k e at left (omega arith) room w (written k (suc e) (at + 4 + wordAt s at) (left - 1) (omega arith) (omega arith) (w .frame .after))
 
--- The first record of a written table, and where the rest stands.
+-- The rule of a written table, and where its Conditions record stands.
+record Fronts (n : Net) (s : List ℕ) : Type 0 where
+  fine : ruleOf s ≡ Fine (front s)
+  ruleIs : oldRule s ≡ n .old 0
+  after : drop (front s) s ≡ framed 1 (bytes (n .conditions) (n .persistent)) ++ recordsFrom n 0 (n .events)
+
+-- a Rule record was written, or none
+fronts : (n : Net) (s : List ℕ) (b : Bool) → n .old 0 ≡ b
+    → s ≡ cond b (framed 6 (1 ∷ [])) [] ++ (framed 1 (bytes (n .conditions) (n .persistent)) ++ recordsFrom n 0 (n .events)) → Fronts n s
+fronts n s true rule e =
+    let w = frame-stands s 0 6 (1 ∷ []) (framed 1 (bytes (n .conditions) (n .persistent)) ++ recordsFrom n 0 (n .events)) e in
+    let six : wordAt s 2 ≡ 6 = sym (known s 0 6 1 (w .header) .kindIs) in
+    let byte : getD s 4 0 ≡ 1 = sym (getD-drop 4 s 0 0) ∙ ap (λ (l : List ℕ). getD l 0 0) (w .body) in
+    record {
+      fine = rule-made s (w .header) (omega arith) ∙ ap Fine (front-ruled s six);
+      ruleIs = sym (rule-ruled s six) ∙ eq-eqb (getD s 4 0) 1 byte ∙ sym rule;
+      after = ap (λ (i : ℕ). drop i s) (sym (front-ruled s six) ∙ ap (λ (k : ℕ). 4 + k) (sym (w .lenIs))) ∙ w .after;
+    }
+fronts n s false rule e =
+    let payload = bytes (n .conditions) (n .persistent) in
+    let w = frame-stands s 0 1 payload (recordsFrom n 0 (n .events)) e in
+    let one : wordAt s 2 ≡ 1 = sym (known s 0 1 (length payload) (w .header) .kindIs) in
+    let plain : wordAt s 2 ≡ 6 → ⊥ = λ z. absurd (omega arith) in
+    record {
+      fine = rule-none s plain ∙ ap Fine (front-plain s plain);
+      ruleIs = sym (rule-plain s plain) ∙ sym rule;
+      after = ap (λ (i : ℕ). drop i s) (sym (front-plain s plain)) ∙ e;
+    }
+
+-- The first records of a written table, and where the rest stands.
 record Opens (n : Net) (s : List ℕ) : Type 0 where
+  rule : Fronts n s
   conditionsIs : conditions s ≡ n .conditions
   flagsIs : flags s ≡ bytes (n .conditions) (n .persistent)
-  fine : conditionsOf s ≡ Fine (4 + conditions s)
-  after : drop (4 + conditions s) s ≡ recordsFrom n 0 (n .events)
+  fine : conditionsOf s (front s) ≡ Fine (front s + 4 + conditions s)
+  after : drop (front s + 4 + conditions s) s ≡ recordsFrom n 0 (n .events)
 
 opens : (n : Net) → Tabled n → (s : List ℕ) → s ≡ encode n → Opens n s
 unfolding encode
 opens n t s e =
     let payload = bytes (n .conditions) (n .persistent) in
-    let w = frame-stands s 0 1 payload (recordsFrom n 0 (n .events)) e in
+    let rule = fronts n s (n .old 0) refl e in
+    let w = frame-stands s (front s) 1 payload (recordsFrom n 0 (n .events)) (rule .after) in
     let long = length-bytes (n .conditions) (n .persistent) in
-    let (p, rest) = part-stands s 4 (conditions s) payload (recordsFrom n 0 (n .events)) (w .body) (sym (w .lenIs)) in
-    let whole : part s 4 (length payload) ≡ payload = ap (part s 4) (sym (w .lenIs)) ∙ p in
+    let (p, rest) = part-stands s (front s + 4) (conditions s) payload (recordsFrom n 0 (n .events)) (w .body) (sym (w .lenIs)) in
+    let whole : part s (front s + 4) (length payload) ≡ payload = ap (part s (front s + 4)) (sym (w .lenIs)) ∙ p in
     let low = t .some-condition in
     let high = t .few-conditions in
-    let made = conditions-made s (length payload) (w .header) (omega arith) (omega arith) (ap bits whole ∙ bits-bytes (n .conditions) (n .persistent)) in
-    record { conditionsIs = w .lenIs ∙ long; flagsIs = p; fine = made ∙ ap (λ (k : ℕ). Fine (4 + k)) (sym (w .lenIs)); after = rest }
+    let made = conditions-made s (front s) (length payload) (w .header) (omega arith) (omega arith) (ap bits whole ∙ bits-bytes (n .conditions) (n .persistent)) in
+    record { rule = rule; conditionsIs = w .lenIs ∙ long; flagsIs = p; fine = made ∙ ap (λ (k : ℕ). Fine (front s + 4 + k)) (sym (w .lenIs)); after = rest }
 
 -- the written table as a whole
-table-written : (n : Net) (t : Tabled n) (s : List ℕ) (o : Opens n s) → Written n 0 (n .events) s (4 + conditions s) 256
-table-written n t s o = written n t s (o .conditionsIs) (o .flagsIs) (n .events) 0 (4 + conditions s) 256 (omega arith) (omega arith) (o .after)
+table-written : (n : Net) (t : Tabled n) (s : List ℕ) (o : Opens n s) → Written n 0 (n .events) s (front s + 4 + conditions s) 256
+table-written n t s o = written n t s (o .conditionsIs) (o .flagsIs) (n .events) 0 (front s + 4 + conditions s) 256 (omega arith) (omega arith) (o .after)
 
 judged-written : (n : Net) → Tabled n → (s : List ℕ) → Opens n s → judgeOf s ≡ Fine (n .events)
 judged-written n t s o =
-    judge-starts s ∙ ap (λ (j : Judged). andThen j (eventsFrom 256 s)) (o .fine) ∙ table-written n t s o .judged
+    judge-starts s
+    ∙ ap (λ (j : Judged). andThen j (λ at. andThen (conditionsOf s at) (eventsFrom 256 s))) (o .rule .fine)
+    ∙ ap (λ (j : Judged). andThen j (eventsFrom 256 s)) (o .fine) ∙ table-written n t s o .judged
 
-agree-written : (n : Net) (s : List ℕ) → Opens n s → Written n 0 (n .events) s (4 + conditions s) 256 → Agree (netIf (Fine (n .events)) s) n
-agree-written n s o w = record {
+agree-written : (n : Net) → Tabled n → (s : List ℕ) → Opens n s → Written n 0 (n .events) s (front s + 4 + conditions s) 256
+    → Agree (netIf (Fine (n .events)) s) n
+agree-written n t s o w = record {
   conditions-agree = o .conditionsIs;
   persistent-agree = λ b h. ap (λ (l : List ℕ). eqb (getD l b 0) 1) (o .flagsIs) ∙ flag-at (n .conditions) (n .persistent) b h;
+  old-agree = λ b h. o .rule .ruleIs ∙ sym (t .one-rule b);
   events-agree = refl;
   pre-agree = λ e h. w .preIs e h ∙ ap (n .preconditions) (omega arith);
   post-agree = λ e h. w .postIs e h ∙ ap (n .postconditions) (omega arith);
@@ -219,4 +257,4 @@ encoded-judged n t = judged-written n t (encode n) (opens n t (encode n) refl)
 pub encoded-agrees : (n : Net) → Tabled n → Agree (netOf (encode n)) n
 encoded-agrees n t =
     let o = opens n t (encode n) refl in
-    rw (net-judged (encode n) (Fine (n .events)) (encoded-judged n t)) (agree-written n (encode n) o (table-written n t (encode n) o))
+    rw (net-judged (encode n) (Fine (n .events)) (encoded-judged n t)) (agree-written n t (encode n) o (table-written n t (encode n) o))

@@ -4,7 +4,7 @@ use native.Mathlib.Nat.{mod-lt, div-lt-iff-lt-mul}
 use native.Mathlib.Omega.{arith}
 use mathlib.Core.Path.{_≡_}
 use mathlib.Core.List.{List, [], _∷_, _++_, map}
-use mathlib.Core.Bool.{Bool, true, false}
+use mathlib.Core.Bool.{Bool, true, false, cond}
 use lib.Dec.{T, ltb, ltb→lt, lt→ltb}
 use lib.ListN.{length}
 use Rattle.lists.specs.Lists.{all, count, fits}
@@ -16,7 +16,7 @@ use Rattle.model.proofs.Lent.{length-bytes}
 use Rattle.words.specs.Words.{bytesOf}
 use Rattle.words.proofs.Laws.{length-bytesOf}
 use Rattle.table.specs.Tabled.{Tabled}
-use Rattle.encoding.specs.Encoded.{framed, eventPayload, recordsFrom, encode}
+use Rattle.encoding.specs.Encoded.{framed, eventPayload, recordsFrom, ruleRecord, encode}
 use Rattle.encoding.proofs.Encoded.{payload-length, pre-fits, post-fits, start-fits}
 
 -- each number of a list is below m
@@ -80,11 +80,16 @@ module _ (n : Net) (t : Tabled n) where
   records-bytes zero e h = marking-bytes
   records-bytes (suc k) e h = below-both 256 (framed 2 (eventPayload n e)) (recordsFrom n (suc e) k) (event-bytes e (omega arith)) (records-bytes k (suc e) (omega arith))
 
+  rule-bytes : (b : Bool) → Below 256 (cond b (framed 6 (1 ∷ [])) [])
+  rule-bytes true = framed-bytes 6 (1 ∷ []) (omega arith) (omega arith) (and-both (ltb 1 256) true (lt→ltb 1 256 (omega arith)) tt)
+  rule-bytes false = tt
+
   pub encoded-bytes : T (all (λ b. ltb b 256) (encode n))
   unfolding encode bytes
   encoded-bytes =
       let few = t .few-conditions in
       let long = length-bytes (n .conditions) (n .persistent) in
-      below-both 256 (framed 1 (bytes (n .conditions) (n .persistent))) (recordsFrom n 0 (n .events))
+      below-both 256 (ruleRecord n) (framed 1 (bytes (n .conditions) (n .persistent)) ++ recordsFrom n 0 (n .events)) (rule-bytes (n .old 0))
+      (below-both 256 (framed 1 (bytes (n .conditions) (n .persistent))) (recordsFrom n 0 (n .events))
       (framed-bytes 1 (bytes (n .conditions) (n .persistent)) (omega arith) (omega arith) (flags-bytes (n .persistent) (count 0 (n .conditions))))
-      (records-bytes (n .events) 0 (omega arith))
+      (records-bytes (n .events) 0 (omega arith)))

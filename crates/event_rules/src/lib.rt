@@ -11,7 +11,7 @@ fn event_lists(s: &[u8], at: usize, next: usize) -> Judged
     requires { ⌜ at + 8 ≤ length (now s) ⌝ }
     ensures { λ r. ⌜ r ≡ listsOf (now (s .entry)) at next ⌝ }
 {
-    let n = words::word(s, 0) as usize;
+    let n = records::conditions(s) as usize;
     let a = words::word(s, at + 4) as usize;
     let z = words::word(s, at + 6) as usize;
     let pre = records::part_of(s, at + 8, 2 * a);
@@ -27,7 +27,7 @@ fn event_lists(s: &[u8], at: usize, next: usize) -> Judged
     if a <= 16 {
         return Judged::Fine(next);
     }
-    let held = words::count_in(records::part_of(s, 4, n), pre);
+    let held = words::count_in(records::flags(s), pre);
     if 16 < held {
         return refusal::refused(8, at);
     }

@@ -1,4 +1,4 @@
--- The document's example, computed by the definition.
+-- The document's example and one with a Rule record, computed by the definition.
 use mathlib.Core.Path.{_≡_, refl}
 use mathlib.Core.List.{List, [], _∷_}
 use Prim.Native.Nat.{ℕ}
@@ -10,8 +10,8 @@ use Rattle.model.specs.Examples.{net, one, two, three, four, netA}
 use Rattle.lists.specs.Lists.{fits}
 use Rattle.refusal.specs.Answer.{need, fitting}
 use Rattle.words.specs.Words.{words, bits, countIn}
-use Rattle.records.specs.Records.{headerOf}
-use Rattle.rules.specs.Rules.{conditionsOf, markingOf}
+use Rattle.records.specs.Records.{headerOf, oldRule, front}
+use Rattle.rules.specs.Rules.{ruleOf, conditionsOf, markingOf}
 use Rattle.event_rules.specs.EventRules.{listsOf, eventOf}
 use Rattle.table.specs.Walk.{eventsFrom, judgeOf, offsetFrom}
 use Rattle.table.specs.Decoded.{netOf}
@@ -47,5 +47,29 @@ abbrev runBytes : List ℕ
 runBytes = 8 ∷ 0 ∷ 4 ∷ 0 ∷ 0 ∷ 0 ∷ 1 ∷ 0 ∷ 2 ∷ 0 ∷ 1 ∷ 0 ∷ []
 
 pub file-example : listingOf netBytes runBytes ≡ listing
-unfolding listingOf judgedLines filesOf need judgeOf conditionsOf eventsFrom eventOf listsOf markingOf headerOf fits words bits countIn readAnswer stepsIn fitting netOf offsetFrom liftedLines linesOf stepLines startLine stepLine endLine listed commas decimal holding begin fire end basic lift
+unfolding listingOf judgedLines filesOf need judgeOf ruleOf front conditionsOf eventsFrom eventOf listsOf markingOf headerOf fits words bits countIn readAnswer stepsIn fitting netOf oldRule offsetFrom liftedLines linesOf stepLines startLine stepLine endLine listed commas decimal holding begin fire end basic lift
 file-example = refl
+
+-- ---- a Rule record before one ordinary condition that holds, and one event that takes it and puts it
+
+abbrev ruledBytes : ℕ → List ℕ
+ruledBytes rule = 1 ∷ 0 ∷ 6 ∷ 0 ∷ rule ∷ 1 ∷ 0 ∷ 1 ∷ 0 ∷ 0 ∷ 8 ∷ 0 ∷ 2 ∷ 0 ∷ 1 ∷ 0 ∷ 1 ∷ 0 ∷ 0 ∷ 0 ∷ 0 ∷ 0 ∷ 2 ∷ 0 ∷ 3 ∷ 0 ∷ 0 ∷ 0 ∷ []
+
+abbrev onceBytes : List ℕ
+onceBytes = 2 ∷ 0 ∷ 4 ∷ 0 ∷ 0 ∷ 0 ∷ []
+
+-- At rule 0 the event goes (02, No. 4).
+abbrev gone : List ℕ
+gone = 115 ∷ 116 ∷ 97 ∷ 114 ∷ 116 ∷ 32 ∷ 48 ∷ 10 ∷ 48 ∷ 32 ∷ 48 ∷ 32 ∷ 48 ∷ 32 ∷ 48 ∷ 10 ∷ 101 ∷ 110 ∷ 100 ∷ 32 ∷ 117 ∷ 110 ∷ 102 ∷ 111 ∷ 108 ∷ 100 ∷ 101 ∷ 100 ∷ 32 ∷ 48 ∷ 10 ∷ []
+
+pub rule-example : listingOf (ruledBytes 0) onceBytes ≡ gone
+unfolding listingOf judgedLines filesOf need judgeOf ruleOf front conditionsOf eventsFrom eventOf listsOf markingOf headerOf fits words bits countIn readAnswer stepsIn fitting netOf oldRule offsetFrom liftedLines linesOf stepLines startLine stepLine endLine listed commas decimal holding begin fire end basic lift
+rule-example = refl
+
+-- At rule 1 the condition is in contact (02, No. 4).
+abbrev met : List ℕ
+met = 114 ∷ 101 ∷ 102 ∷ 117 ∷ 115 ∷ 101 ∷ 100 ∷ 32 ∷ 49 ∷ 50 ∷ 32 ∷ 97 ∷ 116 ∷ 32 ∷ 48 ∷ 32 ∷ 98 ∷ 121 ∷ 32 ∷ 48 ∷ 10 ∷ []
+
+pub old-rule-example : listingOf (ruledBytes 1) onceBytes ≡ met
+unfolding listingOf judgedLines filesOf need judgeOf ruleOf front conditionsOf eventsFrom eventOf listsOf markingOf headerOf fits words bits countIn readAnswer stepsIn fitting netOf oldRule offsetFrom liftedLines refusedLine byWords decimal begin fire basic lift
+old-rule-example = refl

@@ -14,7 +14,7 @@ use Rattle.refusal.specs.declared.Judged.{Judged}
 use Rattle.refusal.specs.declared.Judged.the-variants.{Fine, Refused}
 use Rattle.refusal.specs.Answer.{need, andThen}
 use Rattle.refusal.proofs.Chain.{never-both, need-fine, then-fine}
-use Rattle.records.specs.Records.{conditions, prePart, postPart}
+use Rattle.records.specs.Records.{front, conditions, prePart, postPart}
 use Rattle.event_rules.proofs.Fine.{EventFine}
 use Rattle.table.specs.Walk.{judgeOf, offsetOf}
 use Rattle.table.specs.Decoded.{netIf, netOf, listOf}
@@ -72,7 +72,7 @@ pub flag-read : (s : List ℕ) (b at : ℕ) → askedConditionOf s b ≡ Fine at
 unfolding askedConditionOf netOf
 flag-read s b at t =
     let (n, j, r) = then-fine (judgeOf s) _ at t in
-    let (l, f) = need-fine (ltb b (conditions s)) 10 0 at (Fine (4 + b)) r in
+    let (l, f) = need-fine (ltb b (conditions s)) 10 0 at (Fine (front s + 4 + b)) r in
     let h : b < conditions s = ltb-true b (conditions s) l in
-    let q : at ≡ 4 + b = cc f in
+    let q : at ≡ front s + 4 + b = cc f in
     simp j (rw (q, getD-take, getD-drop))

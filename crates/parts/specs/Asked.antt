@@ -6,7 +6,7 @@ use lib.Dec.{ltb}
 use Rattle.refusal.specs.declared.Judged.{Judged}
 use Rattle.refusal.specs.declared.Judged.the-variants.{Fine, Refused}
 use Rattle.refusal.specs.Answer.{need, andThen}
-use Rattle.records.specs.Records.{conditions, preCount, prePart, postPart, markingPart}
+use Rattle.records.specs.Records.{front, conditions, preCount, prePart, postPart, markingPart}
 use Rattle.parts.specs.declared.Persistence.{Persistence}
 use Rattle.parts.specs.declared.Persistence.the-variants as show
 use Rattle.table.specs.Walk.{judgeOf, offsetOf}
@@ -18,7 +18,7 @@ askedOf s e = andThen (judgeOf s) (λ n. need (ltb e n) 10 0 (Fine (offsetOf s e
 
 -- Condition b: the offset of its byte; 1 to 9, then 10 at 0 (01, Refusal numbers).
 unfoldable pub askedConditionOf : List ℕ → ℕ → Judged
-askedConditionOf s b = andThen (judgeOf s) (λ n. need (ltb b (conditions s)) 10 0 (Fine (4 + b)))
+askedConditionOf s b = andThen (judgeOf s) (λ n. need (ltb b (conditions s)) 10 0 (Fine (front s + 4 + b)))
 
 -- The Marking record: its offset; 1 to 9 (01, Refusal numbers).
 unfoldable pub askedMarkingOf : List ℕ → Judged

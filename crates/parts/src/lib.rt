@@ -42,8 +42,8 @@ pub fn asked_condition(table: &[u8], b: TableCondition) -> Judged
         return r;
     };
     let wanted = b.0;
-    if wanted < words::word(table, 0) {
-        Judged::Fine(4 + wanted as usize)
+    if wanted < records::conditions(table) {
+        Judged::Fine(records::front(table) + 4 + wanted as usize)
     } else {
         refusal::refused(10, 0)
     }

@@ -14,8 +14,11 @@ pub struct Reader<'a> {
 pub fn record_at(table: &[u8], at: usize) -> Judged
     ensures { λ r. ⌜ r ≡ recordOf (now (table .entry)) at ⌝ }
 {
+    if at == records::front(table) {
+        return rules::conditions_record(table, at);
+    }
     if at == 0 {
-        return rules::conditions_record(table);
+        return rules::rule_record(table);
     }
     if table::is_event(table, at) {
         if at < table::offset(table, 256) {

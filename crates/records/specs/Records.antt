@@ -1,9 +1,9 @@
 -- What stands in a record of a table: its header and its lists.
 use Prim.Native.Nat.{ℕ, _+_, _*_}
 use mathlib.Core.List.{List}
-use mathlib.Core.Bool.{cond}
-use lib.ListN.{length, take, drop}
-use lib.Dec.{leb}
+use mathlib.Core.Bool.{Bool, _&&_, cond}
+use lib.ListN.{length, getD, take, drop}
+use lib.Dec.{leb, eqb}
 use Rattle.refusal.specs.declared.Judged.{Judged}
 use Rattle.refusal.specs.Answer.{refusedAt}
 use Rattle.words.specs.Words.{wordAt}
@@ -23,13 +23,25 @@ abbrev pub whenWhole : Header → ℕ → (ℕ → ℕ → Judged) → Judged
 whenWhole Short at f = refusedAt 1 at
 whenWhole (Whole kind len) at f = f kind len
 
--- The number of conditions: the first record has one byte for each (01, Table records, kind 1).
+-- A Rule record stands first: the first header has its kind (02, No. 4).
+abbrev pub ruled : List ℕ → Bool
+ruled s = eqb (wordAt s 2) 6
+
+-- The rule is the old one: a Rule record stands first, and its byte is 1 (02, No. 4).
+unfoldable pub oldRule : List ℕ → Bool
+oldRule s = ruled s && eqb (getD s 4 0) 1
+
+-- The offset of the Conditions record: 0, or 5 where a Rule record stands first (02, No. 4).
+unfoldable pub front : List ℕ → ℕ
+front s = cond (ruled s) 5 0
+
+-- The number of conditions: their record has one byte for each (01, Table records, kind 1).
 abbrev pub conditions : List ℕ → ℕ
-conditions s = wordAt s 0
+conditions s = wordAt s (front s)
 
 -- The conditions' bytes, 1 where the condition is persistent (01, Table records, kind 1).
 abbrev pub flags : List ℕ → List ℕ
-flags s = part s 4 (conditions s)
+flags s = part s (front s + 4) (conditions s)
 
 -- How many preconditions the Event record at an offset counts (01, Table records, kind 2).
 abbrev pub preCount : List ℕ → ℕ → ℕ

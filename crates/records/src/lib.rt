@@ -1,7 +1,7 @@
 // One record of a table: its header, and its lists as parts of the table.
 ghost use mathlib.Core.Path.{_≡_};
 ghost use Prim.Native.Nat.{_+_, _*_};
-ghost use Rattle.records.specs.Records.{part, headerOf, preCount, prePart, postPart, markingPart};
+ghost use Rattle.records.specs.Records.{part, headerOf, oldRule, front, conditions, flags, preCount, prePart, postPart, markingPart};
 ghost use Rattle.records.specs.Parts.{Part, placeIn};
 
 // A header whose payload is there whole, or not.
@@ -46,6 +46,40 @@ pub fn header_at(s: &[u8], at: usize) -> Header
         kind: words::word(s, at + 2),
         len,
     }
+}
+
+// Whether a table asks for the old rule, by its first record.
+pub fn old_rule(s: &[u8]) -> bool
+    ensures { λ r. ⌜ r ≡ oldRule (now (s .entry)) ⌝ }
+{
+    if words::word(s, 2) == 6 {
+        return words::byte(s, 4) == 1;
+    }
+    false
+}
+
+// The offset of the Conditions record, before which a Rule record may stand.
+pub fn front(s: &[u8]) -> usize
+    ensures { λ r. ⌜ r ≡ front (now (s .entry)) ⌝ }
+{
+    if words::word(s, 2) == 6 {
+        return 5;
+    }
+    0
+}
+
+// The number of conditions.
+pub fn conditions(s: &[u8]) -> u16
+    ensures { λ r. ⌜ r ≡ conditions (now (s .entry)) ⌝ }
+{
+    words::word(s, front(s))
+}
+
+// The conditions' bytes, 1 where the condition is persistent.
+pub fn flags(s: &[u8]) -> &[u8]
+    ensures { λ r. ⌜ now r ≡ flags (now (s .entry)) ⌝ }
+{
+    part_of(s, front(s) + 4, conditions(s) as usize)
 }
 
 // The preconditions of the Event record at an offset, not copied: the bytes of s that hold them.

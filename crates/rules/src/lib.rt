@@ -1,30 +1,50 @@
-// The rules of the first and the last record of a table, with their refusals.
+// The rules of the first records and of the last one of a table, with their refusals.
 use records::Header;
 use refusal::Judged;
 ghost use mathlib.Core.Path.{_≡_};
-ghost use Rattle.rules.specs.Rules.{conditionsOf, markingOf};
+ghost use Rattle.rules.specs.Rules.{ruleOf, conditionsOf, markingOf};
 
-// The Conditions record, which stands at offset 0; fine: the offset after it.
-pub fn conditions_record(s: &[u8]) -> Judged
-    ensures { λ r. ⌜ r ≡ conditionsOf (now (s .entry)) ⌝ }
+// The Rule record, where one stands first; fine: the offset after it, which is 0 where there is none.
+pub fn rule_record(s: &[u8]) -> Judged
+    ensures { λ r. ⌜ r ≡ ruleOf (now (s .entry)) ⌝ }
 {
+    if words::word(s, 2) != 6 {
+        return Judged::Fine(0);
+    }
     let h = records::header_at(s, 0);
-    let Header::Whole { kind, len } = h else {
+    let Header::Whole { kind: _, len } = h else {
         return refusal::refused(1, 0);
     };
+    if len != 1 {
+        return refusal::refused(3, 0);
+    }
+    if 1 < words::byte(s, 4) {
+        return refusal::refused(4, 0);
+    }
+    Judged::Fine(5)
+}
+
+// The Conditions record at an offset; fine: the offset after it.
+pub fn conditions_record(s: &[u8], at: usize) -> Judged
+    ensures { λ r. ⌜ r ≡ conditionsOf (now (s .entry)) at ⌝ }
+{
+    let h = records::header_at(s, at);
+    let Header::Whole { kind, len } = h else {
+        return refusal::refused(1, at);
+    };
     if kind != 1 {
-        return refusal::refused(2, 0);
+        return refusal::refused(2, at);
     }
     if len < 1 {
-        return refusal::refused(3, 0);
+        return refusal::refused(3, at);
     }
     if 256 < len {
-        return refusal::refused(3, 0);
+        return refusal::refused(3, at);
     }
-    if words::all_bits(records::part_of(s, 4, len)) {
-        Judged::Fine(4 + len)
+    if words::all_bits(records::part_of(s, at + 4, len)) {
+        Judged::Fine(at + 4 + len)
     } else {
-        refusal::refused(4, 0)
+        refusal::refused(4, at)
     }
 }
 
@@ -42,7 +62,7 @@ pub fn marking_record(s: &[u8], at: usize) -> Judged
     if len % 2 != 0 {
         return refusal::refused(3, at);
     }
-    let n = words::word(s, 0) as usize;
+    let n = records::conditions(s) as usize;
     if !words::ascends(records::part_of(s, at + 4, len), n) {
         return refusal::refused(5, at);
     }

@@ -1,4 +1,5 @@
 pub mod Walk
 pub mod Decoded
+pub mod Ruled
 pub mod Sound
 pub mod Links

@@ -1,7 +1,7 @@
 -- An accepted table is a sound net within the limits.
 use Prim.Native.Nat.{ℕ, zero, suc, _+_, _*_, _≤_, _<_}
 use native.Mathlib.Omega.{arith}
-use mathlib.Core.Path.{_≡_, ap}
+use mathlib.Core.Path.{_≡_, refl, ap}
 use mathlib.Core.List.{List, [], _∷_}
 use lib.Dec.{T}
 use lib.ListN.{length, drop, length-drop}
@@ -59,6 +59,7 @@ tabled-read s n a =
       touches = λ e h.
           let f = a .event e h in
           omega (arith, f .touches, pre-length s (offsetOf s e) _ f, post-length s (offsetOf s e) _ f);
+      one-rule = λ b. refl;
       few-persistent = λ e h. a .event e h .few;
     }
   where

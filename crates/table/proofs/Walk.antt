@@ -1,7 +1,7 @@
 -- The walk over a table: one turn of it, and what a fine walk has passed.
 use Prim.Native.Nat.{ℕ, zero, suc, _+_, _-_, _≤_, _<_}
 use native.Mathlib.Omega.{arith}
-use mathlib.Core.Path.{_≡_, refl, sym}
+use mathlib.Core.Path.{_≡_, refl, sym, subst}
 use mathlib.Core.List.{List}
 use mathlib.Core.Bool.{Bool, true, false, cond}
 use lib.ListN.{length}
@@ -10,14 +10,14 @@ use Rattle.words.specs.Words.{wordAt}
 use Rattle.refusal.specs.declared.Judged.the-variants.{Fine}
 use Rattle.refusal.specs.Answer.{refusedAt, andThen}
 use Rattle.refusal.proofs.Chain.{never-both, then-fine}
-use Rattle.records.specs.Records.{headerOf, conditions}
-use Rattle.rules.specs.Rules.{conditionsOf, markingOf}
+use Rattle.records.specs.Records.{headerOf, front, conditions}
+use Rattle.rules.specs.Rules.{ruleOf, conditionsOf, markingOf}
 use Rattle.event_rules.specs.EventRules.{eventOf}
-use Rattle.rules.proofs.Fine.{ConditionsFine, conditions-fine, MarkingFine, marking-fine}
+use Rattle.rules.proofs.Fine.{rule-fine, ConditionsFine, conditions-fine, MarkingFine, marking-fine}
 use Rattle.event_rules.proofs.Fine.{EventFine, event-fine}
 use Rattle.table.specs.Walk.{kindIs, lastOf, eventsFrom, judgeOf, offsetFrom, offsetOf}
 
-pub judge-starts : (s : List ℕ) → judgeOf s ≡ andThen (conditionsOf s) (eventsFrom 256 s)
+pub judge-starts : (s : List ℕ) → judgeOf s ≡ andThen (ruleOf s) (λ at. andThen (conditionsOf s at) (eventsFrom 256 s))
 unfolding judgeOf
 judge-starts s = refl
 
@@ -98,12 +98,12 @@ walked (suc left) s at n h e = walked-if left s at n (kindIs 2 (headerOf s at)) 
 
 -- What an accepted table of n events is, record by record.
 pub record Accepted (s : List ℕ) (n : ℕ) : Type 0 where
-  pub conditionsFine : ConditionsFine s (4 + conditions s)
+  pub conditionsFine : ConditionsFine s (front s) (front s + 4 + conditions s)
   pub few : n ≤ 256
   pub event : (e : ℕ) → e < n → EventFine s (offsetOf s e) (offsetOf s (suc e))
   pub marking : MarkingFine s (offsetOf s n) (length s)
 
-accepted-from : (s : List ℕ) (n start : ℕ) → ConditionsFine s start → Walked 256 s start n → Accepted s n
+accepted-from : (s : List ℕ) (n start : ℕ) → ConditionsFine s (front s) start → Walked 256 s start n → Accepted s n
 accepted-from s n start k w =
     let total : w .count ≡ n = omega (arith, w .total) in
     record {
@@ -116,5 +116,6 @@ accepted-from s n start k w =
 pub accepted : (s : List ℕ) (n : ℕ) → judgeOf s ≡ Fine n → Accepted s n
 unfolding judgeOf
 accepted s n j =
-    let (start, c, r) = then-fine (conditionsOf s) (eventsFrom 256 s) n j in
-    accepted-from s n start (conditions-fine s start c) (walked 256 s start n (omega arith) r)
+    let (at, h, i) = then-fine (ruleOf s) (λ at. andThen (conditionsOf s at) (eventsFrom 256 s)) n j in
+    let (start, c, r) = then-fine (conditionsOf s at) (eventsFrom 256 s) n i in
+    accepted-from s n start (subst (λ (at : ℕ). ConditionsFine s at start) (rule-fine s at h) (conditions-fine s at start c)) (walked 256 s start n (omega arith) r)

@@ -9,8 +9,8 @@ use Rattle.refusal.specs.declared.Judged.the-variants.{Fine}
 use Rattle.refusal.specs.Answer.{refusedAt, andThen}
 use Rattle.records.specs.declared.Header.{Header}
 use Rattle.records.specs.declared.Header.the-variants.{Whole, Short}
-use Rattle.records.specs.Records.{headerOf}
-use Rattle.rules.specs.Rules.{conditionsOf, markingOf}
+use Rattle.records.specs.Records.{headerOf, front, conditions}
+use Rattle.rules.specs.Rules.{ruleOf, conditionsOf, markingOf}
 use Rattle.event_rules.specs.EventRules.{eventOf}
 
 -- A header is whole and of a kind.
@@ -28,9 +28,10 @@ unfoldable pub eventsFrom : ℕ → List ℕ → ℕ → Judged
 eventsFrom zero s at = cond (kindIs 2 (headerOf s at)) (refusedAt 6 at) (lastOf 0 s at)
 eventsFrom (suc left) s at = cond (kindIs 2 (headerOf s at)) (andThen (eventOf s at) (eventsFrom left s)) (lastOf (suc left) s at)
 
--- The table: one Conditions record, the events, one Marking record; fine: the number of events (01, Table records).
+-- The table: a Rule record or none, one Conditions record, the events, one Marking record; fine: the number of events (01, Table
+-- records; 02, No. 4).
 unfoldable pub judgeOf : List ℕ → Judged
-judgeOf s = andThen (conditionsOf s) (eventsFrom 256 s)
+judgeOf s = andThen (ruleOf s) (λ at. andThen (conditionsOf s at) (eventsFrom 256 s))
 
 -- The offset so many records further on.
 unfoldable pub offsetFrom : ℕ → List ℕ → ℕ → ℕ
@@ -39,4 +40,4 @@ offsetFrom (suc e) s at = offsetFrom e s (at + 4 + wordAt s at)
 
 -- The offset of event e, the first event being 0 (01, Table records).
 abbrev pub offsetOf : List ℕ → ℕ → ℕ
-offsetOf s e = offsetFrom e s (4 + wordAt s 0)
+offsetOf s e = offsetFrom e s (front s + 4 + conditions s)

@@ -23,7 +23,11 @@ pub fn is_event(table: &[u8], at: usize) -> bool
 pub fn judge(table: &[u8]) -> Judged
     ensures { λ r. ⌜ r ≡ judgeOf (now (table .entry)) ⌝ }
 {
-    let first = rules::conditions_record(table);
+    let rule = rules::rule_record(table);
+    let Judged::Fine(front) = rule else {
+        return rule;
+    };
+    let first = rules::conditions_record(table, front);
     let Judged::Fine(start) = first else {
         return first;
     };
@@ -51,7 +55,7 @@ pub fn judge(table: &[u8]) -> Judged
 pub fn offset(table: &[u8], e: u16) -> usize
     ensures { λ r. ⌜ r ≡ offsetOf (now (table .entry)) e ⌝ }
 {
-    let mut at = 4 + words::word(table, 0) as usize;
+    let mut at = records::front(table) + 4 + records::conditions(table) as usize;
     let mut left = e;
     while 0 < left {
         at = at + 4 + words::word(table, at) as usize;
@@ -68,7 +72,7 @@ pub fn condition_count(table: &[u8]) -> Judged
     let Judged::Fine(_) = r else {
         return r;
     };
-    Judged::Fine(words::word(table, 0) as usize)
+    Judged::Fine(records::conditions(table) as usize)
 }
 
 // The number of the table's events.

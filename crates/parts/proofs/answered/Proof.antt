@@ -1,4 +1,4 @@
--- `table::answered` meets its contract.
+-- `parts::answered` meets its contract.
 use borrow.Author.Needs.{needs}
 use Rattle.parts.proofs.answered.Statement.{statement}
 use Rattle.parts.proofs.answered.Tie as tie

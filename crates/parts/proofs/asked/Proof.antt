@@ -1,4 +1,4 @@
--- `table::asked` meets its contract.
+-- `parts::asked` meets its contract.
 use mathlib.Core.Path.{_∙_, sym, ap}
 use borrow.Author.Tests.{lt-ltb, le-ltb}
 use Rattle.refusal.specs.Answer.{need}

@@ -1,4 +1,4 @@
--- `table::condition_in` meets its contract.
+-- `parts::condition_in` meets its contract.
 use mathlib.Core.Path.{_∙_, sym}
 use native.Mathlib.Omega.{arith}
 use Rattle.words.proofs.Laws.{words-at, words-past}

@@ -1,4 +1,4 @@
--- `table::marking_part` meets its contract.
+-- `parts::marking_part` meets its contract.
 use mathlib.Core.Path.{_∙_, sym, ap, refl}
 use native.Mathlib.Omega.{arith}
 use Prim.Native.Nat.{ℕ, _+_}

@@ -1,4 +1,4 @@
--- `table::persistent` meets its contract.
+-- `parts::persistent` meets its contract.
 use Rattle.refusal.specs.declared.Judged.the-variants.{Fine}
 use Rattle.table.specs.Decoded.{netOf}
 use mathlib.Core.Path.{_∙_, sym, ap}

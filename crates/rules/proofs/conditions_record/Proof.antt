@@ -1,8 +1,10 @@
 -- `rules::conditions_record` meets its contract.
 use mathlib.Core.Path.{_∙_, sym}
+use native.Mathlib.Omega.{arith}
 use borrow.Author.Tests.{eq-eqb, ne-eqb, le-leb, lt-leb}
 use Rattle.refusal.specs.Answer.{need}
 use Rattle.rules.specs.Rules.{conditionsOf}
+use Rattle.records.proofs.Headers.{known}
 use borrow.Author.Needs.{needs}
 use Rattle.rules.proofs.conditions_record.Statement.{statement}
 use Rattle.rules.proofs.conditions_record.Tie as tie
@@ -26,6 +28,21 @@ returns-4 : tie.Need-returns-4
 unfolding conditionsOf need
 returns-4 c =
     c .refused4 .ensures ∙ simp (sym (c .before .before .before .before .before .before .before .header-at .ensures) ∙ c .before .before .before .before .before .h .given .1, eq-eqb _ _ (c .before .before .before .if1 .left), le-leb _ _ (c .before .before .if2 .left), lt-leb _ _ (c .before .if3 .taken))
+
+add-part-of : tie.Need-add-part-of
+add-part-of c =
+    let k = known _ _ _ _ (sym (c .before .before .before .before .before .before .header-at .ensures) ∙ c .before .before .before .before .h .given .1) in
+        omega arith
+
+add-t11 : tie.Need-add-t11
+add-t11 c =
+    let k = known _ _ _ _ (sym (c .before .before .before .before .before .before .before .before .before .header-at .ensures) ∙ c .before .before .before .before .before .before .before .h .given .1) in
+        omega arith
+
+add-t12 : tie.Need-add-t12
+add-t12 c =
+    let k = known _ _ _ _ (sym (c .before .before .before .before .before .before .before .before .before .header-at .ensures) ∙ c .before .before .before .before .before .before .before .h .given .1) in
+        omega arith
 
 returns-5 : tie.Need-returns-5
 unfolding conditionsOf need
@@ -52,9 +69,11 @@ conditions-record-spec =
     returns-3
     (λ c κs. search needs)
     returns-4
+    add-part-of
     (λ c κs. search needs)
     (λ c κs. search needs)
-    (λ c. search needs)
+    add-t11
+    add-t12
     (λ c κs. search needs)
     returns-5
     returns-6)

@@ -32,7 +32,7 @@ add-part-of c =
 returns-4 : tie.Need-returns-4
 unfolding markingOf need
 returns-4 c =
-    c .refused4 .ensures ∙ simp (sym (c .before .before .before .before .before .before .before .before .before .before .header-at .ensures) ∙ c .before .before .before .before .before .before .before .before .h .given .1, eq-eqb _ _ (c .before .before .before .before .before .before .if1 .left), eq-eqb _ _ (c .before .before .before .before .before .if2 .left), ← c .before .before .before .before .word .ensures, ← c .before .before .before .part-of .ensures, ← c .before .before .ascends .ensures, not-true (c .before .before .ascends .result) (c .before .if3 .taken))
+    c .refused4 .ensures ∙ simp (sym (c .before .before .before .before .before .before .before .before .before .before .header-at .ensures) ∙ c .before .before .before .before .before .before .before .before .h .given .1, eq-eqb _ _ (c .before .before .before .before .before .before .if1 .left), eq-eqb _ _ (c .before .before .before .before .before .if2 .left), ← c .before .before .before .before .conditions .ensures, ← c .before .before .before .part-of .ensures, ← c .before .before .ascends .ensures, not-true (c .before .before .ascends .result) (c .before .if3 .taken))
 
 add-next : tie.Need-add-next
 add-next c =
@@ -47,12 +47,12 @@ add-next-2 c =
 returns-5 : tie.Need-returns-5
 unfolding markingOf need
 returns-5 c =
-    c .refused5 .ensures ∙ simp (sym (c .before .before .before .before .before .before .before .before .before .before .before .header-at .ensures) ∙ c .before .before .before .before .before .before .before .before .before .h .given .1, eq-eqb _ _ (c .before .before .before .before .before .before .before .if1 .left), eq-eqb _ _ (c .before .before .before .before .before .before .if2 .left), ← c .before .before .before .before .before .word .ensures, ← c .before .before .before .before .part-of .ensures, ← c .before .before .before .ascends .ensures, not-false (c .before .before .before .ascends .result) (c .before .before .if3 .left), lt-leb _ _ (c .before .if4 .taken))
+    c .refused5 .ensures ∙ simp (sym (c .before .before .before .before .before .before .before .before .before .before .before .header-at .ensures) ∙ c .before .before .before .before .before .before .before .before .before .h .given .1, eq-eqb _ _ (c .before .before .before .before .before .before .before .if1 .left), eq-eqb _ _ (c .before .before .before .before .before .before .if2 .left), ← c .before .before .before .before .before .conditions .ensures, ← c .before .before .before .before .part-of .ensures, ← c .before .before .before .ascends .ensures, not-false (c .before .before .before .ascends .result) (c .before .before .if3 .left), lt-leb _ _ (c .before .if4 .taken))
 
 returns-6 : tie.Need-returns-6
 unfolding markingOf need
 returns-6 c =
-    simp (sym (c .before .before .before .before .before .before .before .before .before .before .header-at .ensures) ∙ c .before .before .before .before .before .before .before .before .h .given .1, eq-eqb _ _ (c .before .before .before .before .before .before .if1 .left), eq-eqb _ _ (c .before .before .before .before .before .if2 .left), ← c .before .before .before .before .word .ensures, ← c .before .before .before .part-of .ensures, ← c .before .before .ascends .ensures, not-false (c .before .before .ascends .result) (c .before .if3 .left), le-leb _ _ (c .if4 .left))
+    simp (sym (c .before .before .before .before .before .before .before .before .before .before .header-at .ensures) ∙ c .before .before .before .before .before .before .before .before .h .given .1, eq-eqb _ _ (c .before .before .before .before .before .before .if1 .left), eq-eqb _ _ (c .before .before .before .before .before .if2 .left), ← c .before .before .before .before .conditions .ensures, ← c .before .before .before .part-of .ensures, ← c .before .before .ascends .ensures, not-false (c .before .before .ascends .result) (c .before .if3 .left), le-leb _ _ (c .if4 .left))
 
 pub marking-record-spec : {M : Type 1} → statement M
 marking-record-spec =

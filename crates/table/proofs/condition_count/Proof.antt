@@ -14,7 +14,7 @@ returns c =
 returns-2 : tie.Need-returns-2
 unfolding netOf
 returns-2 c =
-    ap Fine (c .word .ensures) ∙ simp (sym (c .before .before .before .judge .ensures) ∙ c .before .enum-told .given .1)
+    ap Fine (c .conditions .ensures) ∙ simp (sym (c .before .before .before .judge .ensures) ∙ c .before .enum-told .given .1)
 
 pub condition-count-spec : {M : Type 1} → statement M
 condition-count-spec =
