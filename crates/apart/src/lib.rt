@@ -99,7 +99,7 @@ pub fn apart_at<'a>(
     if e == f {
         return false;
     }
-    let flags = records::part_of(table, 4, words::word(table, 0) as usize);
+    let flags = records::flags(table);
     let pre = records::pre_at(table, there);
     let post = records::post_at(table, there);
     if !all_pass(

@@ -59,5 +59,5 @@ pub fn start(table: &[u8], out: &mut [u8]) -> Judged
     };
     let mut state = [0u8; 256];
     played::start(table, n, &mut state);
-    played::write_end(&state, words::word(table, 0) as usize, out)
+    played::write_end(&state, records::conditions(table) as usize, out)
 }

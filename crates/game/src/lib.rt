@@ -29,7 +29,7 @@ pub fn judge_lent<'a>(table: &'a [u8], marking: &'a [u8]) -> Judged
     let Judged::Fine(_) = judged else {
         return judged;
     };
-    let count = words::word(table, 0) as usize;
+    let count = records::conditions(table) as usize;
     if marking.len() != count {
         return refusal::refused(18, count);
     }
@@ -75,6 +75,6 @@ pub fn fire(table: &[u8], marking: &mut [u8], event: TableEvent) -> Judged
     let Judged::Fine(at) = asked else {
         return asked;
     };
-    let count = words::word(table, 0) as usize;
+    let count = records::conditions(table) as usize;
     step::answered(step::step_at(table, at, marking), count)
 }

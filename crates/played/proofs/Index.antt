@@ -14,7 +14,7 @@ use Rattle.lists.specs.Lists.{mem}
 use Rattle.model.specs.Net.{begin}
 use Rattle.refusal.specs.declared.Judged.the-variants.{Fine}
 use Rattle.words.specs.Words.{wordAt, words}
-use Rattle.records.specs.Records.{markingPart}
+use Rattle.records.specs.Records.{front, conditions, markingPart}
 use Rattle.table.specs.Walk.{judgeOf, offsetFrom, offsetOf}
 use Rattle.table.specs.Decoded.{netOf}
 use Rattle.table.proofs.Walk.{accepted}
@@ -38,9 +38,8 @@ pub record Filling (s : List ℕ) (n i at c : ℕ) (l : List ℕ) : Type 0 where
   pub long : length l ≡ c
   pub each : (e : ℕ) → e < i → getD l e 0 ≡ offsetOf s e
 
-pub filling-start : (s : List ℕ) (n x : ℕ) (l : List ℕ) → x ≡ wordAt s 0 → Filling s n 0 (4 + x) (length l) l
-unfolding offsetFrom
-filling-start s n x l e = record { upto = omega arith; place = ap (λ (y : ℕ). 4 + y) e; long = refl; each = λ e h. absurd (omega arith) }
+pub filling-start : (s : List ℕ) (n at : ℕ) (l : List ℕ) → at ≡ offsetOf s 0 → Filling s n 0 at (length l) l
+filling-start s n at l e = record { upto = omega arith; place = e; long = refl; each = λ e h. absurd (omega arith) }
 
 module _ (s : List ℕ) (n : ℕ) (j : judgeOf s ≡ Fine n) (i at c : ℕ) (l : List ℕ) (f : Filling s n i at c l) where
   -- the record that stands there lies inside the table
@@ -51,7 +50,7 @@ module _ (s : List ℕ) (n : ℕ) (j : judgeOf s ≡ Fine n) (i at c : ℕ) (l :
   filling-on h room x e =
       record {
         upto = omega arith;
-        place = ap (λ (y : ℕ). at + 4 + y) e ∙ ap (λ (a : ℕ). a + 4 + wordAt s a) (f .place) ∙ sym (offset-last i s (4 + wordAt s 0)) ∙ ap (offsetOf s) (sym (add-one i));
+        place = ap (λ (y : ℕ). at + 4 + y) e ∙ ap (λ (a : ℕ). a + 4 + wordAt s a) (f .place) ∙ sym (offset-last i s (front s + 4 + conditions s)) ∙ ap (offsetOf s) (sym (add-one i));
         long = length-set l i at ∙ f .long;
         each = λ k p. go k (eqb k i) refl p;
       }

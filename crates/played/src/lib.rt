@@ -20,7 +20,7 @@ pub fn fill(table: &[u8], n: usize, offsets: &mut [usize])
     requires { ⌜ (judgeOf (now table) ≡ Fine n) × (n ≤ length (now offsets)) ⌝ }
     ensures { λ _. ⌜ Indexed (now (table .entry)) n (now (offsets .exit)) ⌝ }
 {
-    let mut at = 4 + words::word(table, 0) as usize;
+    let mut at = table::offset(table, 0);
     let mut i: usize = 0;
     while i < n {
         offsets[i] = at;
@@ -78,7 +78,7 @@ pub fn play<'a>(
         }
         k = k + 1;
     }
-    Judged::Fine(words::word(table, 0) as usize)
+    Judged::Fine(records::conditions(table) as usize)
 }
 
 // The first bytes of one slice over those of another.

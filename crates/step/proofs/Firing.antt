@@ -4,7 +4,7 @@ use native.Mathlib.Decide.{decLe}
 use native.Mathlib.Nat.{lt-of-not-le}
 use native.Mathlib.Omega.{arith}
 use mathlib.Core.Path.{_≡_, refl, sym, ap, _∙_, fun-ext}
-use mathlib.Core.Bool.{Bool, true, false, not, _&&_, _||_, cond}
+use mathlib.Core.Bool.{Bool, true, false, not, _&&_, _||_, cond, and-true, and-false}
 use mathlib.Core.Option.{Option, none, some}
 use mathlib.Core.List.{List, [], _∷_}
 use lib.Dec.{eqb}
@@ -12,10 +12,10 @@ use lib.ListN.{length, getD, set, replicate, length-set, length-replicate, getD-
 use lib.Seq.{getD-set-same, getD-set-other}
 use borrow.Author.Tests.{eqb-true, eqb-false}
 use Rattle.lists.specs.Lists.{mem, failing}
-use Rattle.model.specs.Net.{free, lacking, contact, fire, Stop, firstStop, stopping}
+use Rattle.model.specs.Net.{Marking, free, lacking, contact, fire, Stop, firstStop, stopping}
 use Rattle.refusal.specs.declared.TableCondition.{TableCondition}
 use Rattle.words.specs.Words.{words}
-use Rattle.records.specs.Records.{flags, prePart, postPart}
+use Rattle.records.specs.Records.{oldRule, flags, prePart, postPart}
 use Rattle.step.specs.declared.Step.{Step}
 use Rattle.step.specs.declared.Step.the-variants.{Goes, Stops}
 use Rattle.step.specs.declared.Cause.{Cause}
@@ -45,17 +45,18 @@ found-nothing none none d e = refl
 found-nothing none (some x) d e = absurd (let z : _≡_ {A = ℕ} 0 1 = cc in omega arith)
 found-nothing (some x) p d e = absurd (let z : _≡_ {A = ℕ} 0 1 = cc in omega arith)
 
--- the three lists of bytes that the test of a record reads
-module _ (s l : List ℕ) (at : ℕ) (f pre post : List ℕ) (isF : f ≡ flags s) (isPre : pre ≡ prePart s at) (isPost : post ≡ postPart s at) where
+-- the three lists of bytes and the rule that the test of a record reads
+module _ (s l : List ℕ) (at : ℕ) (f pre post : List ℕ) (isF : f ≡ flags s) (isPre : pre ≡ prePart s at) (isPost : post ≡ postPart s at) (old : Bool)
+    (isOld : old ≡ oldRule s) where
   abbrev low : Option ℕ
   low = failing (marking l) (words pre)
 
   abbrev high : Option ℕ
-  high = failing (clearOf f (marking l) (λ b. mem b (words pre))) (words post)
+  high = failing (clearOf f (marking l) (λ b. mem b (words pre) && not old)) (words post)
 
   stops : firstStop true low high ≡ stopping (recordNet s at) (marking l) 0
   unfolding stopping lacking contact free recordNet
-  stops = rw (isF, isPre, isPost)
+  stops = rw (isF, isPre, isPost, isOld)
 
   module _ (x : Failing) (isX : x ≡ failingOf low) where
     pub test-lacks : (b : TableCondition) → x ≡ At b → Stops (Lacks b) ≡ stepOf (stopping (recordNet s at) (marking l) 0)
@@ -128,7 +129,7 @@ put-all bs c =
     one false = refl
 
 -- for bytes that are no more than these, a mark tells what the list does
-pub marked-clear : (f l bs t : List ℕ) (c : ℕ) → length l ≤ c → t ≡ setAll [] 1 bs (replicate c 0)
+marked-clear : (f l bs t : List ℕ) (c : ℕ) → length l ≤ c → t ≡ setAll [] 1 bs (replicate c 0)
     → clearOf f (marking l) (marking t) ≡ clearOf f (marking l) (λ b. mem b bs)
 unfolding marking
 marked-clear f l bs t c h e = fun-ext (λ b. go b (decLe c b))
@@ -141,10 +142,10 @@ marked-clear f l bs t c h e = fun-ext (λ b. go b (decLe c b))
     go b (no p) = rw (here b (lt-of-not-le p))
 
 -- where no condition makes contact though nothing is taken, none does
-pub none-meets : (f l bs xs : List ℕ) (x : Failing) → x ≡ failingOf (failing (clearOf f (marking l) (marking [])) xs) → x ≡ Nothing
-    → x ≡ failingOf (failing (clearOf f (marking l) (λ b. mem b bs)) xs)
+pub none-meets : (f l xs : List ℕ) (taken : Marking) (x : Failing) → x ≡ failingOf (failing (clearOf f (marking l) (marking [])) xs) → x ≡ Nothing
+    → x ≡ failingOf (failing (clearOf f (marking l) taken) xs)
 unfolding marking
-none-meets f l bs xs x is e = e ∙ sym (ap failingOf (go xs (sym is ∙ e)))
+none-meets f l xs taken x is e = e ∙ sym (ap failingOf (go xs (sym is ∙ e)))
   where
     step : (h k m : Bool) (b : ℕ) (before after : Option ℕ) → failingOf (cond (not h || (k || false)) before (some b)) ≡ Nothing → (failingOf before ≡ Nothing → after ≡ none)
         → cond (not h || (k || m)) after (some b) ≡ none
@@ -152,9 +153,23 @@ none-meets f l bs xs x is e = e ∙ sym (ap failingOf (go xs (sym is ∙ e)))
     step true true m b before after e ih = ih e
     step true false m b before after e ih = absurd (let z : _≡_ {A = ℕ} 0 1 = cc in omega arith)
 
-    go : (xs : List ℕ) → failingOf (failing (clearOf f (marking l) (marking [])) xs) ≡ Nothing → failing (clearOf f (marking l) (λ b. mem b bs)) xs ≡ none
+    go : (xs : List ℕ) → failingOf (failing (clearOf f (marking l) (marking [])) xs) ≡ Nothing → failing (clearOf f (marking l) taken) xs ≡ none
     go [] e = refl
-    go (b ∷ xs) e = step (eqb (getD l b 0) 1) (eqb (getD f b 0) 1) (mem b bs) b _ _ e (go xs)
+    go (b ∷ xs) e = step (eqb (getD l b 0) 1) (eqb (getD f b 0) 1) (taken b) b _ _ e (go xs)
+
+-- the first in contact by the rule: under the old one what is taken excuses nothing, else the preconditions do
+module _ (f l bs xs : List ℕ) (old : Bool) where
+  abbrev met : Marking → Failing
+  met taken = failingOf (failing (clearOf f (marking l) taken) xs)
+
+  pub meets-old : (x : Failing) → x ≡ met (marking []) → old ≡ true → x ≡ met (λ b. mem b bs && not old)
+  unfolding marking
+  meets-old x is e = is ∙ ap met (fun-ext (λ b. rw e (sym (and-false (mem b bs)))))
+
+  pub meets-new : (x : Failing) (t : List ℕ) (c : ℕ) → x ≡ met (marking t) → length l ≤ c → t ≡ setAll [] 1 bs (replicate c 0) → old ≡ false
+      → x ≡ met (λ b. mem b bs && not old)
+  meets-new x t c is h put e =
+      is ∙ ap (λ (g : ℕ → Bool). failingOf (failing g xs)) (marked-clear f l bs t c h put) ∙ ap met (fun-ext (λ b. rw e (sym (and-true (mem b bs)))))
 
 -- ---- the firing
 

@@ -12,7 +12,7 @@ use Rattle.refusal.specs.declared.Judged.{Judged}
 use Rattle.refusal.specs.declared.Judged.the-variants.{Fine}
 use Rattle.refusal.specs.Answer.{refusedBy}
 use Rattle.words.specs.Words.{words}
-use Rattle.records.specs.Records.{conditions, flags, prePart, postPart}
+use Rattle.records.specs.Records.{oldRule, conditions, flags, prePart, postPart}
 use Rattle.step.specs.declared.Cause.{Cause}
 use Rattle.step.specs.declared.Cause.the-variants.{Unknown, Lacks, Meets}
 use Rattle.step.specs.declared.Step.{Step}
@@ -22,8 +22,8 @@ use Rattle.step.specs.declared.Failing.the-variants.{Nothing, At}
 
 -- ---- the test of one condition, and the first that fails
 
--- A condition makes no contact if it does not hold, or is persistent, or is taken, as the preconditions of the event are (01, Playing
--- the table).
+-- A condition makes no contact if it does not hold, or is persistent, or is taken in a way that excuses, as the preconditions of the
+-- event are but under the old rule (01, Playing the table; 02, No. 4).
 abbrev pub clearOf : List ℕ → Marking → Marking → ℕ → Bool
 clearOf f m taken b = not (m b) || (eqb (getD f b 0) 1 || taken b)
 
@@ -50,6 +50,7 @@ unfoldable pub recordNet : List ℕ → ℕ → Net
 recordNet s at = record {
   conditions = conditions s;
   persistent = λ b. eqb (getD (flags s) b 0) 1;
+  old = λ b. oldRule s;
   events = 1;
   preconditions = λ e. words (prePart s at);
   postconditions = λ e. words (postPart s at);

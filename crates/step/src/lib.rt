@@ -3,6 +3,7 @@ use refusal::By;
 use refusal::Judged;
 use refusal::TableCondition;
 ghost use mathlib.Core.Path.{_≡_};
+ghost use mathlib.Core.Bool.{not, _&&_};
 ghost use Prim.Native.Nat.{_≤_};
 ghost use lib.ListN.{length};
 ghost use Rattle.lists.specs.Lists.{mem, failing};
@@ -99,16 +100,19 @@ fn first_contact<'a>(flags: &'a [u8], state: &'a [u8], taken: &'a [u8], list: &'
     Failing::Nothing
 }
 
-// The first postcondition that makes contact: where one would if nothing were taken, the preconditions are marked once, so that none is
-// looked up in their list.
-fn contact<'a>(flags: &'a [u8], state: &'a [u8], pre: &'a [u8], post: &'a [u8]) -> Failing
+// The first postcondition that makes contact: where one would if nothing were taken, and the rule is not the old one, by which taking
+// excuses none, the preconditions are marked once, so that none is looked up in their list.
+fn contact<'a>(flags: &'a [u8], state: &'a [u8], pre: &'a [u8], post: &'a [u8], old: bool) -> Failing
     requires { ⌜ length (now state) ≤ 256 ⌝ }
-    ensures { λ r. ⌜ r ≡ failingOf (failing (clearOf (now (flags .entry)) (marking (now (state .entry))) (λ b. mem b (words (now (pre .entry))))) (words (now (post .entry)))) ⌝ }
+    ensures { λ r. ⌜ r ≡ failingOf (failing (clearOf (now (flags .entry)) (marking (now (state .entry))) (λ b. mem b (words (now (pre .entry))) && not old)) (words (now (post .entry)))) ⌝ }
 {
     let untaken = first_contact(flags, state, &pre[..0], post);
     let Failing::At(_) = untaken else {
         return untaken;
     };
+    if old {
+        return untaken;
+    }
     let mut taken = [0u8; 256];
     set_all(&pre[..0], pre, 1, &mut taken);
     first_contact(flags, state, &taken, post)
@@ -119,14 +123,14 @@ pub fn test_at<'a>(table: &'a [u8], at: usize, state: &'a [u8]) -> Step
     requires { ⌜ length (now state) ≤ 256 ⌝ }
     ensures { λ r. ⌜ r ≡ stepOf (stopping (recordNet (now (table .entry)) at) (marking (now (state .entry))) 0) ⌝ }
 {
-    let flags = records::part_of(table, 4, words::word(table, 0) as usize);
+    let flags = records::flags(table);
     let pre = records::pre_at(table, at);
     let post = records::post_at(table, at);
     let lacking = first_lacking(state, pre);
     if let Failing::At(b) = lacking {
         return Step::Stops(Cause::Lacks(b));
     }
-    let meeting = contact(flags, state, pre, post);
+    let meeting = contact(flags, state, pre, post, records::old_rule(table));
     if let Failing::At(b) = meeting {
         return Step::Stops(Cause::Meets(b));
     }
@@ -143,7 +147,7 @@ pub fn step_at(table: &[u8], at: usize, state: &mut [u8]) -> Step
     let Step::Goes = answer else {
         return answer;
     };
-    let flags = records::part_of(table, 4, words::word(table, 0) as usize);
+    let flags = records::flags(table);
     set_all(flags, records::pre_at(table, at), 0, state);
     set_all(&table[..0], records::post_at(table, at), 1, state);
     answer

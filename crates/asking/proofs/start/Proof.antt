@@ -25,12 +25,12 @@ start-requires c κs =
 write-end-requires : tie.Need-write-end-requires
 write-end-requires c κs =
     let j = sym (c .before .before .before .before .before .before .before .before .before .judge .ensures) ∙ c .before .before .before .before .before .before .before .r .given .1 in
-    omega (arith, c .before .word .ensures, conditions-are-all _ _ j, tabled _ _ j .few-conditions, ap length (c .before .before .before .before .start .ensures), length-bytes 256 (begin (netOf (c .before .before .before .before .before .before .before .before .before .before .before .before .args .table .now))))
+    omega (arith, c .before .conditions .ensures, conditions-are-all _ _ j, tabled _ _ j .few-conditions, ap length (c .before .before .before .before .start .ensures), length-bytes 256 (begin (netOf (c .before .before .before .before .before .before .before .before .before .before .before .before .args .table .now))))
 
 returns-2 : tie.Need-returns-2
 returns-2 c =
     let j = sym (c .before .before .before .before .before .before .before .before .before .before .before .before .judge .ensures) ∙ c .before .before .before .before .before .before .before .before .before .before .r .given .1 in
-    start-fine _ _ j _ (c .before .before .before .before .before .before .before .start .ensures) _ (c .before .before .before .before .word .ensures) _ _ _ (c .before .before .write-end .ensures .0) (c .before .before .write-end .ensures .1)
+    start-fine _ _ j _ (c .before .before .before .before .before .before .before .start .ensures) _ (c .before .before .before .before .conditions .ensures) _ _ _ (c .before .before .write-end .ensures .0) (c .before .before .write-end .ensures .1)
 
 pub start-spec : {M : Type 1} → statement M
 start-spec =

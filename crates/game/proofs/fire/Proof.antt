@@ -30,7 +30,7 @@ returns-2 c =
     let e = c .before .before .before .before .before .before .before .before .before .before .before .before .before .args .event .0 in
     let found = sym (c .before .before .before .before .before .before .before .before .before .ready .ensures) ∙ c .before .before .before .before .before .before .before .asked .given .1 in
     let k = ready-fine s m e _ found in (
-      c .answered .ensures ∙ firing-told s m e (c .before .before .before .before .before .word .result) _ _ found (c .before .before .before .step-at .ensures .0) ∙ ap (firingOf s m e) (c .before .before .before .before .before .word .ensures ∙ conditions-are-all s (k .events) (k .judged)),
+      c .answered .ensures ∙ firing-told s m e (c .before .before .before .before .before .conditions .result) _ _ found (c .before .before .before .step-at .ensures .0) ∙ ap (firingOf s m e) (c .before .before .before .before .before .conditions .ensures ∙ conditions-are-all s (k .events) (k .judged)),
       c .before .before .before .step-at .ensures .1 ∙ fired-fine s m e _ found,
     )
 

@@ -23,20 +23,20 @@ returns-2 : tie.Need-returns-2
 returns-2 c =
     let s = c .before .before .before .before .before .before .before .before .args .table .now in
     let m = c .before .before .before .before .before .before .before .before .args .marking .now in
-    c .refused .ensures ∙ ap (refusedAt 18) (c .before .before .word .ensures) ∙ wrong-length (conditions s) m _ (λ q. c .before .if1 .taken (q ∙ sym (c .before .before .word .ensures))) ∙ sym (on-judged s m Fine _ (sym (c .before .before .before .before .before .judge .ensures) ∙ c .before .before .before .enum-told .given .1))
+    c .refused .ensures ∙ ap (refusedAt 18) (c .before .before .conditions .ensures) ∙ wrong-length (conditions s) m _ (λ q. c .before .if1 .taken (q ∙ sym (c .before .before .conditions .ensures))) ∙ sym (on-judged s m Fine _ (sym (c .before .before .before .before .before .judge .ensures) ∙ c .before .before .before .enum-told .given .1))
 
 returns-3 : tie.Need-returns-3
 returns-3 c =
     let s = c .before .before .before .before .before .before .before .before .before .before .args .table .now in
     let m = c .before .before .before .before .before .before .before .before .before .before .args .marking .now in
     let above : firstAbove m < length m = omega (arith, c .before .before .first-above .ensures, c .before .if2 .taken) in
-    c .refused2 .ensures ∙ ap (refusedAt 18) (c .before .before .first-above .ensures) ∙ byte-above (conditions s) m _ (c .before .before .before .if1 .left ∙ c .before .before .before .before .word .ensures) above ∙ sym (on-judged s m Fine _ (sym (c .before .before .before .before .before .before .before .judge .ensures) ∙ c .before .before .before .before .before .enum-told .given .1))
+    c .refused2 .ensures ∙ ap (refusedAt 18) (c .before .before .first-above .ensures) ∙ byte-above (conditions s) m _ (c .before .before .before .if1 .left ∙ c .before .before .before .before .conditions .ensures) above ∙ sym (on-judged s m Fine _ (sym (c .before .before .before .before .before .before .before .judge .ensures) ∙ c .before .before .before .before .before .enum-told .given .1))
 
 returns-4 : tie.Need-returns-4
 returns-4 c =
     let s = c .before .before .before .before .before .before .before .before .before .args .table .now in
     let m = c .before .before .before .before .before .before .before .before .before .args .marking .now in
-    c .before .before .before .before .enum-told .given .1 ∙ all-right (conditions s) m _ (c .before .before .if1 .left ∙ c .before .before .before .word .ensures) (omega (arith, c .before .first-above .ensures, c .if2 .left)) ∙ sym (on-judged s m Fine _ (sym (c .before .before .before .before .before .before .judge .ensures) ∙ c .before .before .before .before .enum-told .given .1))
+    c .before .before .before .before .enum-told .given .1 ∙ all-right (conditions s) m _ (c .before .before .if1 .left ∙ c .before .before .before .conditions .ensures) (omega (arith, c .before .first-above .ensures, c .if2 .left)) ∙ sym (on-judged s m Fine _ (sym (c .before .before .before .before .before .before .judge .ensures) ∙ c .before .before .before .before .enum-told .given .1))
 
 pub judge-lent-spec : {M : Type 1} → statement M
 judge-lent-spec =

@@ -17,23 +17,23 @@ abbrev μ-loop : tie.MeasureT-loop
 
 loop-holds : tie.Need-loop-holds Inv-loop μ-loop
 loop-holds c =
-    filling-start (c .before .before .before .args .table .now) _ _ _ (c .word .ensures)
+    filling-start (c .before .before .before .args .table .now) _ _ _ (c .offset .ensures)
 
 slice-write-offsets : tie.Need-slice-write-offsets Inv-loop μ-loop
 slice-write-offsets c =
     omega (arith, c .before .loop .inv .long, c .before .loop .inv .upto)
 
-add-at-2 : tie.Need-add-at-2 Inv-loop μ-loop
-add-at-2 c =
+add-at : tie.Need-add-at Inv-loop μ-loop
+add-at c =
     omega (arith, filling-inside (c .before .before .before .before .before .args .table .now) _ (c .before .before .before .before .before .pre .0) _ _ _ _ (c .before .loop .inv) (c .loop-test .taken))
 
-add-at-3 : tie.Need-add-at-3 Inv-loop μ-loop
-add-at-3 c =
-    omega (arith, filling-inside (c .before .before .before .before .before .before .args .table .now) _ (c .before .before .before .before .before .before .pre .0) _ _ _ _ (c .before .before .loop .inv) (c .before .loop-test .taken), c .word2 .ensures)
+add-at-2 : tie.Need-add-at-2 Inv-loop μ-loop
+add-at-2 c =
+    omega (arith, filling-inside (c .before .before .before .before .before .before .args .table .now) _ (c .before .before .before .before .before .before .pre .0) _ _ _ _ (c .before .before .loop .inv) (c .before .loop-test .taken), c .word .ensures)
 
 loop-again : tie.Need-loop-again Inv-loop μ-loop
 loop-again c =
-    filling-on (c .before .before .before .before .before .before .args .table .now) _ (c .before .before .before .before .before .before .pre .0) _ _ _ _ (c .before .before .loop .inv) (c .before .loop-test .taken) (c .before .before .before .before .before .before .pre .1) _ (c .word2 .ensures)
+    filling-on (c .before .before .before .before .before .before .args .table .now) _ (c .before .before .before .before .before .before .pre .0) _ _ _ _ (c .before .before .loop .inv) (c .before .loop-test .taken) (c .before .before .before .before .before .before .pre .1) _ (c .word .ensures)
 
 returns : tie.Need-returns Inv-loop μ-loop
 returns c =
@@ -46,15 +46,13 @@ fill-spec =
     Inv-loop
     μ-loop
     (λ c κs. search needs)
-    (λ c. search needs)
-    (λ c. search needs)
     loop-holds
     (λ c. search needs)
     slice-write-offsets
-    add-at-2
+    add-at
     (λ c κs. search needs)
     (λ c. search needs)
-    add-at-3
+    add-at-2
     (λ c. search needs)
     (λ c. search needs)
     loop-again

@@ -42,7 +42,7 @@ loop-again c =
 
 returns-3 : tie.Need-returns-3 Inv-loop μ-loop
 returns-3 c =
-    comes-to-end _ _ _ _ _ _ (c .before .before .loop .inv) (omega (arith, c .before .before .before .before .before .before .before .before .pre .room .0, conditions-are-all _ _ (c .before .before .before .before .before .before .before .before .pre .judged))) (c .before .loop-test .left) (c .before .before .before .if1 .left) _ (c .word .ensures ∙ conditions-are-all _ _ (c .before .before .before .before .before .before .before .before .pre .judged))
+    comes-to-end _ _ _ _ _ _ (c .before .before .loop .inv) (omega (arith, c .before .before .before .before .before .before .before .before .pre .room .0, conditions-are-all _ _ (c .before .before .before .before .before .before .before .before .pre .judged))) (c .before .loop-test .left) (c .before .before .before .if1 .left) _ (c .conditions .ensures ∙ conditions-are-all _ _ (c .before .before .before .before .before .before .before .before .pre .judged))
 
 pub play-spec : {M : Type 1} → statement M
 play-spec =

@@ -1,22 +1,21 @@
 -- `step::contact` meets its contract.
-use Prim.Native.Nat.{ℕ}
-use mathlib.Core.Path.{_∙_, ap}
-use mathlib.Core.Bool.{Bool}
-use Rattle.lists.specs.Lists.{failing}
 use Rattle.words.specs.Words.{words}
-use Rattle.step.specs.Steps.{failingOf}
-use Rattle.step.proofs.Firing.{marked-clear, none-meets}
+use Rattle.step.proofs.Firing.{none-meets, meets-old, meets-new}
 use borrow.Author.Needs.{needs}
 use Rattle.step.proofs.contact.Statement.{statement}
 use Rattle.step.proofs.contact.Tie as tie
 
 returns : tie.Need-returns
 returns c =
-    none-meets (c .before .before .before .before .before .before .before .before .args .flags .now) (c .before .before .before .before .before .before .before .before .args .state .now) (words (c .before .before .before .before .before .before .before .before .args .pre .now)) (words (c .before .before .before .before .before .before .before .before .args .post .now)) _ (c .before .before .first-contact .ensures) (c .enum-told2 .given .1)
+    none-meets (c .before .before .before .before .before .before .before .before .args .flags .now) (c .before .before .before .before .before .before .before .before .args .state .now) (words (c .before .before .before .before .before .before .before .before .args .post .now)) _ _ (c .before .before .first-contact .ensures) (c .enum-told2 .given .1)
 
 returns-2 : tie.Need-returns-2
 returns-2 c =
-    c .first-contact2 .ensures ∙ ap (λ (t : ℕ → Bool). failingOf (failing t (words (c .before .before .before .before .before .before .before .before .before .before .before .before .before .before .args .post .now)))) (marked-clear (c .before .before .before .before .before .before .before .before .before .before .before .before .before .before .args .flags .now) (c .before .before .before .before .before .before .before .before .before .before .before .before .before .before .args .state .now) (words (c .before .before .before .before .before .before .before .before .before .before .before .before .before .before .args .pre .now)) _ 256 (c .before .before .before .before .before .before .before .before .before .before .before .before .before .before .pre) (c .before .before .before .set-all .ensures))
+    meets-old (c .before .before .before .before .before .before .before .before .before .args .flags .now) (c .before .before .before .before .before .before .before .before .before .args .state .now) (words (c .before .before .before .before .before .before .before .before .before .args .pre .now)) (words (c .before .before .before .before .before .before .before .before .before .args .post .now)) (c .before .before .before .before .before .before .before .before .before .args .old) _ (c .before .before .before .first-contact .ensures) (c .if1 .taken)
+
+returns-3 : tie.Need-returns-3
+returns-3 c =
+    meets-new (c .before .before .before .before .before .before .before .before .before .before .before .before .before .before .before .args .flags .now) (c .before .before .before .before .before .before .before .before .before .before .before .before .before .before .before .args .state .now) (words (c .before .before .before .before .before .before .before .before .before .before .before .before .before .before .before .args .pre .now)) (words (c .before .before .before .before .before .before .before .before .before .before .before .before .before .before .before .args .post .now)) (c .before .before .before .before .before .before .before .before .before .before .before .before .before .before .before .args .old) _ _ 256 (c .first-contact2 .ensures) (c .before .before .before .before .before .before .before .before .before .before .before .before .before .before .before .pre) (c .before .before .before .set-all .ensures) (c .before .before .before .before .before .before .if1 .left)
 
 pub contact-spec : {M : Type 1} → statement M
 contact-spec =
@@ -27,9 +26,10 @@ contact-spec =
     (λ c. search needs)
     (λ c. search needs)
     returns
+    returns-2
     (λ c. search needs)
     (λ c. search needs)
     (λ c κs. search needs)
     (λ c. search needs)
     (λ c κs. search needs)
-    returns-2)
+    returns-3)

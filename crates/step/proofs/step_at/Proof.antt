@@ -2,7 +2,6 @@
 use mathlib.Core.Path.{_∙_, ap}
 use mathlib.Core.List.{[]}
 use Rattle.words.specs.Words.{words}
-use Rattle.records.specs.Records.{part}
 use Rattle.step.specs.Steps.{setAll}
 use Rattle.step.proofs.Firing.{step-kept, step-written}
 use borrow.Author.Needs.{needs}
@@ -15,10 +14,10 @@ returns c =
 
 returns-2 : tie.Need-returns-2
 returns-2 c = (
-  c .before .before .before .before .before .before .before .before .before .before .before .before .before .before .before .test-at .ensures,
+  c .before .before .before .before .before .before .before .before .before .before .before .before .before .before .test-at .ensures,
   c .before .before .set-all2 .ensures
       ∙ ap (setAll [] 1 (words (c .before .before .before .before .post-at .result .now))) (c .before .before .before .before .before .before .before .before .set-all .ensures)
-      ∙ step-written (c .before .before .before .before .before .before .before .before .before .before .before .before .before .before .before .before .before .before .before .args .table .now) (c .before .before .before .before .before .before .before .before .before .before .before .before .before .before .before .before .before .before .before .args .state .now) (c .before .before .before .before .before .before .before .before .before .before .before .before .before .before .before .before .before .before .before .args .at) _ (c .before .before .before .before .before .before .before .before .before .before .before .before .before .before .before .test-at .ensures) (c .before .before .before .before .before .before .before .before .before .before .before .before .before .enum-told .given .1) (c .before .before .before .before .before .before .before .before .before .before .before .before .before .before .before .before .before .before .before .pre .0) _ _ _ (c .before .before .before .before .before .before .before .before .before .before .before .part-of .ensures ∙ ap (part (c .before .before .before .before .before .before .before .before .before .before .before .before .before .before .before .before .before .before .before .args .table .now) 4) (c .before .before .before .before .before .before .before .before .before .before .before .before .word .ensures)) (c .before .before .before .before .before .before .before .before .before .before .pre-at .ensures .reads) (c .before .before .before .before .post-at .ensures .reads),
+      ∙ step-written (c .before .before .before .before .before .before .before .before .before .before .before .before .before .before .before .before .before .before .args .table .now) (c .before .before .before .before .before .before .before .before .before .before .before .before .before .before .before .before .before .before .args .state .now) (c .before .before .before .before .before .before .before .before .before .before .before .before .before .before .before .before .before .before .args .at) _ (c .before .before .before .before .before .before .before .before .before .before .before .before .before .before .test-at .ensures) (c .before .before .before .before .before .before .before .before .before .before .before .before .enum-told .given .1) (c .before .before .before .before .before .before .before .before .before .before .before .before .before .before .before .before .before .before .pre .0) _ _ _ (c .before .before .before .before .before .before .before .before .before .before .before .flags .ensures) (c .before .before .before .before .before .before .before .before .before .before .pre-at .ensures .reads) (c .before .before .before .before .post-at .ensures .reads),
 )
 
 pub step-at-spec : {M : Type 1} → statement M
@@ -30,8 +29,6 @@ step-at-spec =
     (λ c. search needs)
     (λ c. search needs)
     returns
-    (λ c κs. search needs)
-    (λ c. search needs)
     (λ c κs. search needs)
     (λ c κs. search needs)
     (λ c κs. search needs)
