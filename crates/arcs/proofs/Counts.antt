@@ -24,7 +24,7 @@ use Rattle.table.specs.Walk.{judgeOf}
 use Rattle.table.specs.Decoded.{netOf}
 use Rattle.table.proofs.Sound.{accepted-sound}
 use Rattle.layout.specs.Laid.{Laid}
-use Rattle.doubled.specs.Doubling.{without, second, doubled}
+use Rattle.doubled.specs.Doubling.{without, excusing, second, doubled}
 use Rattle.segments.proofs.Ranged.{ranged-length}
 use Rattle.arcs.specs.Arcs.{exported, arcsAt, Arcs}
 
@@ -54,10 +54,10 @@ places-short t k (x ∷ l) = go (t x) (places-short t (suc k) l)
     go true ih = omega arith
     go false ih = omega arith
 
-side-short : (n : Net) (a b : List ℕ) → length (a ++ map (second n) (without b a)) ≤ length a + length b
+side-short : (n : Net) (a b other : List ℕ) → length (a ++ map (second n) (without b other)) ≤ length a + length b
 unfolding without
-side-short n a b =
-    omega (arith, length-append a (map (second n) (without b a)), length-map (without b a) (second n), keep-short (λ x. not (mem x a)) b)
+side-short n a b other =
+    omega (arith, length-append a (map (second n) (without b other)), length-map (without b other) (second n), keep-short (λ x. not (mem x other)) b)
 
 module _ (n : Net) (j : ℕ) where
   pre-few : length (basic n .preconditions j) ≤ conditionCount n
@@ -74,8 +74,8 @@ arcs-few s ms us bs l j =
     let n = basic (netOf s) in
     omega (
       arith,
-      side-short n (n .preconditions j) (n .postconditions j),
-      side-short n (n .postconditions j) (n .preconditions j),
+      side-short n (n .preconditions j) (n .postconditions j) (excusing n (n .preconditions j)),
+      side-short n (n .postconditions j) (n .preconditions j) (excusing n (n .postconditions j)),
       pre-few (netOf s) j,
       post-few (netOf s) j,
       l .few-conditions,
@@ -110,8 +110,8 @@ module _ (n : Net) (x : Sound n) (u : unfoldingRefused n ≡ none) (j : ℕ) (h 
   unfolding exported doubled
   no-arc z =
       not-idle (touches-nothing n x j here
-      (nil (basic n .preconditions j) (omega (arith, length-append (basic n .preconditions j) (map (second (basic n)) (without (basic n .postconditions j) (basic n .preconditions j))))))
-      (nil (basic n .postconditions j) (omega (arith, length-append (basic n .postconditions j) (map (second (basic n)) (without (basic n .preconditions j) (basic n .postconditions j)))))))
+      (nil (basic n .preconditions j) (omega (arith, length-append (basic n .preconditions j) (map (second (basic n)) (without (basic n .postconditions j) (excusing (basic n) (basic n .preconditions j)))))))
+      (nil (basic n .postconditions j) (omega (arith, length-append (basic n .postconditions j) (map (second (basic n)) (without (basic n .preconditions j) (excusing (basic n) (basic n .postconditions j))))))))
 
 pub arcs-some : (s : List ℕ) (k : ℕ) → judgeOf s ≡ Fine k → unfoldingRefused (netOf s) ≡ none → (j : ℕ) → j < basic (netOf s) .events → 0 < arcsAt (netOf s) j
 unfolding arcsAt

@@ -16,7 +16,7 @@ use Rattle.model.specs.Unfolding.{basic}
 use Rattle.model.specs.Numbering.{size, conditionCount}
 use Rattle.model.proofs.Counts.{count-conditions}
 use Rattle.table.specs.Decoded.{netOf}
-use Rattle.doubled.specs.Doubling.{without, second, doubled}
+use Rattle.doubled.specs.Doubling.{without, excusing, second, doubled}
 use Rattle.segments.specs.Ranges.{ranged}
 use Rattle.segments.proofs.Listed.{added-low}
 use Rattle.arcs.specs.Arcs.{exported, Arcs}
@@ -36,12 +36,12 @@ map-low c m (y ∷ l) h x t =
     (λ a. let z = eqb→eq x (c + y) a in omega (arith, z, h y (or-left (eqb y y) (mem y l) (eqb-refl y))))
     (λ a. map-low c m l (λ b i. h b (or-right (eqb b y) (mem b l) i)) x a)
 
-side-low : (c : ℕ) → c ≤ 65535 → (a b : List ℕ) → ((x : ℕ) → T (mem x a) → x < 65535) → ((x : ℕ) → T (mem x b) → x < 65535)
-    → (x : ℕ) → T (mem x (a ++ map (λ y. c + y) (without b a))) → x < 131070
+side-low : (c : ℕ) → c ≤ 65535 → (a b other : List ℕ) → ((x : ℕ) → T (mem x a) → x < 65535) → ((x : ℕ) → T (mem x b) → x < 65535)
+    → (x : ℕ) → T (mem x (a ++ map (λ y. c + y) (without b other))) → x < 131070
 unfolding without
-side-low c f a b p q x t =
-    or-cases (mem x a) (mem x (map (λ y. c + y) (without b a))) (rw mem-append at t) (λ i. omega (arith, p x i))
-    (λ i. omega (arith, map-low c 65535 (without b a) (λ y m. q y (and-left (mem y b) (not (mem y a)) (rw mem-keep at m))) x i))
+side-low c f a b other p q x t =
+    or-cases (mem x a) (mem x (map (λ y. c + y) (without b other))) (rw mem-append at t) (λ i. omega (arith, p x i))
+    (λ i. omega (arith, map-low c 65535 (without b other) (λ y m. q y (and-left (mem y b) (not (mem y other)) (rw mem-keep at m))) x i))
 
 -- ---- all four
 
@@ -81,8 +81,8 @@ module _ (s : List ℕ) (e rest : ℕ) (h : e < netOf s .events) (l : rest < siz
         post-low b t = added-low (netOf s) true e rest h l w b t
 
         both : (a b : List ℕ) → ((x : ℕ) → T (mem x a) → x < 65535) → ((x : ℕ) → T (mem x b) → x < 65535)
-            → T (mem x (a ++ map (second n) (without b a))) → x < 131070
-        both a b p q t = side-low (n .conditions) (omega (arith, conditions-basic (netOf s), w)) a b p q x t
+            → T (mem x (a ++ map (second n) (without b (excusing n a)))) → x < 131070
+        both a b p q t = side-low (n .conditions) (omega (arith, conditions-basic (netOf s), w)) a b (excusing n a) p q x t
 
     pub arcs-laid : conditionCount (netOf s) ≤ 65535 → (starts sizes : List ℕ) (k : ℕ) → k ≡ conditions s → length starts ≡ 2048 → length sizes ≡ 2048
         → ((i : ℕ) → i ≤ 4 → ranged starts sizes (i * (2 * k)) ≡ laidPlaces s firsts e rest i) → Arcs (netOf s) j starts sizes

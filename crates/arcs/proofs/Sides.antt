@@ -1,4 +1,4 @@
--- What all conditions add to each of the four sides of an unfolded event: its lists, and each without the other.
+-- What all conditions add to each of the four sides of an unfolded event: its lists, and each without what the other excuses.
 use mathlib.Core.Path.{_≡_, refl, sym, _∙_, ap}
 use mathlib.Core.Bool.{Bool, true, false, not, _&&_, cond}
 use mathlib.Core.List.{List, [], _∷_}
@@ -8,10 +8,10 @@ use native.Mathlib.Nat.{add-zero, zero-add, suc-add, add-suc}
 use Rattle.lists.specs.Lists.{mem, keep, count, spread, sum, places-from}
 use Rattle.lists.proofs.Places.{hit, mem-places}
 use Rattle.model.specs.Net.{Net}
-use Rattle.model.specs.Unfolding.{UnfoldedEvent, copies, unfoldedConditions, takes, puts, origin, basic}
+use Rattle.model.specs.Unfolding.{UnfoldedCondition, UnfoldedEvent, copies, unfoldedConditions, takes, puts, follows, origin, basic}
 use Rattle.model.specs.Numbering.{size, width}
 use Rattle.model.proofs.Counts.{width-copies}
-use Rattle.doubled.specs.Doubling.{without}
+use Rattle.doubled.specs.Doubling.{without, excusing}
 use Rattle.unfolding.proofs.Numbered.{origin-is}
 use Rattle.segments.specs.Ranges.{eventAt}
 use Rattle.segments.proofs.Places.{places-spread}
@@ -59,10 +59,20 @@ module _ (n : Net) (e rest : ℕ) (h : e < n .events) (l : rest < size n e) wher
   unfolding basic
   puts-all = side-all Puts
 
-  pub fills-all : spread (addedOn n Fills (eventAt n e rest)) (count 0 (n .conditions)) ≡ without (basic n .postconditions j) (basic n .preconditions j)
-  unfolding basic
-  fills-all = side-all Fills ∙ places-without (puts n (origin n j)) (takes n (origin n j)) (unfoldedConditions n)
+  -- the places of one test without what those of another excuse
+  places-unexcused : (t u : UnfoldedCondition → Bool) → places-from 0 (λ p. t p && not (u p && not (follows n p))) (unfoldedConditions n)
+      ≡ without (places-from 0 t (unfoldedConditions n)) (excusing (basic n) (places-from 0 u (unfoldedConditions n)))
+  unfolding without excusing basic
+  places-unexcused t u =
+      places-without t (λ p. u p && not (follows n p)) (unfoldedConditions n)
+      ∙ ap (without (places-from 0 t (unfoldedConditions n))) (places-without u (follows n) (unfoldedConditions n))
 
-  pub empties-all : spread (addedOn n Empties (eventAt n e rest)) (count 0 (n .conditions)) ≡ without (basic n .preconditions j) (basic n .postconditions j)
+  pub fills-all : spread (addedOn n Fills (eventAt n e rest)) (count 0 (n .conditions))
+      ≡ without (basic n .postconditions j) (excusing (basic n) (basic n .preconditions j))
   unfolding basic
-  empties-all = side-all Empties ∙ places-without (takes n (origin n j)) (puts n (origin n j)) (unfoldedConditions n)
+  fills-all = side-all Fills ∙ places-unexcused (puts n (origin n j)) (takes n (origin n j))
+
+  pub empties-all : spread (addedOn n Empties (eventAt n e rest)) (count 0 (n .conditions))
+      ≡ without (basic n .preconditions j) (excusing (basic n) (basic n .postconditions j))
+  unfolding basic
+  empties-all = side-all Empties ∙ places-unexcused (takes n (origin n j)) (puts n (origin n j))

@@ -73,7 +73,7 @@ fn lay_arcs<'a>(
     requires { ⌜ (own .rest < size (netOf (now table)) (own .event)) × (length (now starts) ≡ 2048) × (length (now sizes) ≡ 2048) ⌝ }
     ensures { λ _. ⌜ Arcs (netOf (now (table .entry))) (sum (size (netOf (now (table .entry)))) (own .event) + own .rest) (now (starts .exit)) (now (sizes .exit)) ⌝ }
 {
-    let n = words::word(table, 0) as usize;
+    let n = records::conditions(table) as usize;
     let mut i: usize = 0;
     while i < 4 {
         let at = i * (2 * n);
@@ -134,7 +134,7 @@ pub fn open_transition<'a>(
         starts,
         sizes,
     );
-    segments::total(&sizes[..], 8 * words::word(table, 0) as usize)
+    segments::total(&sizes[..], 8 * records::conditions(table) as usize)
 }
 
 // What the number after that of an unfolded event names: the next colour of its event, else the first of the next event.

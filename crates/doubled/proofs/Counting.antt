@@ -13,7 +13,7 @@ use Rattle.lists.proofs.Members.{mem-in, mem-keep}
 use Rattle.lists.proofs.Distinct.{ascending-least, ascending-keep}
 use Rattle.model.specs.Net.{Net}
 use Rattle.doubled.specs.Plain.{times}
-use Rattle.doubled.specs.Doubling.{without, second, token}
+use Rattle.doubled.specs.Doubling.{without, excusing, second, token}
 
 -- ---- lists of any kind
 
@@ -57,6 +57,11 @@ without-ascends l other t = ascending-keep (λ b. not (mem b other)) 0 l t
 pub mem-without : (b : ℕ) (l other : List ℕ) → mem b (without l other) ≡ (mem b l && not (mem b other))
 unfolding without
 mem-without b l other = mem-keep (λ b. not (mem b other)) b l
+
+-- without what the members of another list excuse, which those under the old rule do not
+pub mem-unexcused : (n : Net) (b : ℕ) (l other : List ℕ) → mem b (without l (excusing n other)) ≡ (mem b l && not (mem b other && not (n .old b)))
+unfolding excusing
+mem-unexcused n b l other = rw (mem-without b l (excusing n other), mem-keep (λ b. not (n .old b)) b other)
 
 -- ---- first places, and second places after them
 

@@ -10,11 +10,11 @@ use Rattle.lists.proofs.Bools.{is-true, not-out, not-in, not-not, iff, and-left
 use Rattle.lists.proofs.Members.{mem-in, in-mem, mem-append, count-in}
 use Rattle.lists.proofs.Tests.{all-at, all-of}
 use Rattle.model.specs.Net.{Net, Sound, Marking, begin, free, concession, can, fire}
-use Rattle.model.proofs.Firing.{can-event, can-concession, free-pre, pre-holds, unblocked, concession-intro}
+use Rattle.model.proofs.Firing.{can-event, can-concession, pre-holds, unblocked, concession-intro}
 use Rattle.doubled.specs.Plain.{Tokens, times, initially, enabled, moved}
-use Rattle.doubled.specs.Doubling.{without, second, doubled, token, Mirrors, StepsAlike}
+use Rattle.doubled.specs.Doubling.{without, excusing, second, doubled, token, Mirrors, StepsAlike}
 use Rattle.lists.proofs.Distinct.{count-ascends}
-use Rattle.doubled.proofs.Counting.{without-ascends, mem-without, first-times, second-times}
+use Rattle.doubled.proofs.Counting.{without-ascends, mem-without, mem-unexcused, first-times, second-times}
 
 -- ---- one token or none
 
@@ -36,16 +36,18 @@ first-after false true false f g = refl
 first-after false false true f g = refl
 first-after false false false f g = refl
 
-second-after : (a z h : Bool) → (T a → T h) → (T z → T h → T a)
-    → (token (not h) - token (z && not a)) + token (a && not z) ≡ token (not (z || h && not a))
-second-after true true true f g = refl
-second-after true true false f g = absurd (f tt)
-second-after true false true f g = refl
-second-after true false false f g = absurd (f tt)
-second-after false true true f g = absurd (g tt tt)
-second-after false true false f g = refl
-second-after false false true f g = refl
-second-after false false false f g = refl
+-- and o whether it is under the old rule, by which a postcondition that holds has no excuse
+second-after : (a z o h : Bool) → (T a → T h) → (T z → T h → T (a && not o))
+    → (token (not h) - token (z && not (a && not o))) + token (a && not (z && not o)) ≡ token (not (z || h && not a))
+second-after true true true true f g = absurd (g tt tt)
+second-after true true false true f g = refl
+second-after true true o false f g = absurd (f tt)
+second-after true false o true f g = refl
+second-after true false o false f g = absurd (f tt)
+second-after false true o true f g = absurd (g tt tt)
+second-after false true o false f g = refl
+second-after false false o true f g = refl
+second-after false false o false f g = refl
 
 -- ---- the start
 
@@ -85,77 +87,95 @@ module _ (n : Net) (s : Sound n) (o : (b : ℕ) → n .persistent b ≡ false) (
   abbrev post : List ℕ
   post = n .postconditions e
 
+  -- a condition is excused from contact: it is a precondition, and not under the old rule
+  abbrev excused : ℕ → Bool
+  excused b = mem b pre && not (n .old b)
+
+  free-excused : (b : ℕ) → free n e b ≡ excused b
+  unfolding free
+  free-excused b = rw (o b)
+
+  -- the conditions whose second place is taken, and those whose second place is put
+  abbrev filled : List ℕ
+  filled = without post (excusing n pre)
+
+  abbrev emptied : List ℕ
+  emptied = without pre (excusing n post)
+
   -- the arcs from and to the two places of a condition
   taken-first : (b : ℕ) → b < n .conditions → times b (doubled n .inputs e) ≡ token (mem b pre)
   unfolding doubled
-  taken-first b l = first-times n pre (without post pre) (s .pre-ascends e h) b l
+  taken-first b l = first-times n pre filled (s .pre-ascends e h) b l
 
-  taken-second : (b : ℕ) → times (second n b) (doubled n .inputs e) ≡ token (mem b post && not (mem b pre))
+  taken-second : (b : ℕ) → times (second n b) (doubled n .inputs e) ≡ token (mem b post && not (excused b))
   unfolding doubled
   taken-second b =
-      second-times n pre (without post pre) (λ b. s .pre-in e b h) (without-ascends post pre (s .post-ascends e h)) b ∙ ap token (mem-without b post pre)
+      second-times n pre filled (λ b. s .pre-in e b h) (without-ascends post (excusing n pre) (s .post-ascends e h)) b ∙ ap token (mem-unexcused n b post pre)
 
   put-first : (b : ℕ) → b < n .conditions → times b (doubled n .outputs e) ≡ token (mem b post)
   unfolding doubled
-  put-first b l = first-times n post (without pre post) (s .post-ascends e h) b l
+  put-first b l = first-times n post emptied (s .post-ascends e h) b l
 
-  put-second : (b : ℕ) → times (second n b) (doubled n .outputs e) ≡ token (mem b pre && not (mem b post))
+  put-second : (b : ℕ) → times (second n b) (doubled n .outputs e) ≡ token (mem b pre && not (mem b post && not (n .old b)))
   unfolding doubled
   put-second b =
-      second-times n post (without pre post) (λ b. s .post-in e b h) (without-ascends pre post (s .pre-ascends e h)) b ∙ ap token (mem-without b pre post)
+      second-times n post emptied (λ b. s .post-in e b h) (without-ascends pre (excusing n post) (s .pre-ascends e h)) b ∙ ap token (mem-unexcused n b pre post)
 
   -- ---- enabled exactly if it can fire
 
   first-asked : (b : ℕ) → b < n .conditions → asked n k e b ≡ (mem b pre ⇒ m b)
   first-asked b l = rw (taken-first b l, q .first-place b l) (token-enough (mem b pre) (m b))
 
-  second-asked : (b : ℕ) → b < n .conditions → asked n k e (second n b) ≡ ((mem b post && not (mem b pre)) ⇒ not (m b))
-  second-asked b l = rw (taken-second b, q .second-place b l) (token-enough (mem b post && not (mem b pre)) (not (m b)))
+  second-asked : (b : ℕ) → b < n .conditions → asked n k e (second n b) ≡ ((mem b post && not (excused b)) ⇒ not (m b))
+  second-asked b l = rw (taken-second b, q .second-place b l) (token-enough (mem b post && not (excused b)) (not (m b)))
 
   abbrev seconds : List ℕ
-  seconds = map (second n) (without post pre)
+  seconds = map (second n) filled
 
   in-inputs : (x : ℕ) → mem x (doubled n .inputs e) ≡ (mem x pre || mem x seconds)
   unfolding doubled
   in-inputs x = mem-append x pre seconds
 
   conceded : T (all (asked n k e) (doubled n .inputs e)) → T (concession n m e)
-  unfolding free
   conceded t =
       concession-intro n m e
       (λ b i. imp-elim (mem b pre) (m b) (subst T (first-asked b (s .pre-in e b h i)) (at b (or-left (mem b pre) (mem b seconds) i))) i)
-      (λ b i p held. not-not (free n e b) (λ f. not-out (m b) (clear b i (λ j. f (or-right (n .persistent b) (mem b pre) j))) held))
+      (λ b i p held. subst T (sym (free-excused b)) (not-not (excused b) (λ f. not-out (m b) (clear b i f) held)))
     where
       at : (x : ℕ) → T (mem x pre || mem x seconds) → T (asked n k e x)
       at x i = all-at (asked n k e) (doubled n .inputs e) t x (subst T (sym (in-inputs x)) i)
 
-      -- a postcondition that is no precondition does not hold
-      clear : (b : ℕ) → T (mem b post) → (T (mem b pre) → ⊥) → T (not (m b))
+      -- a postcondition that is not excused does not hold
+      clear : (b : ℕ) → T (mem b post) → (T (excused b) → ⊥) → T (not (m b))
       clear b i f =
-          let j = and-both (mem b post) (not (mem b pre)) i (not-in (mem b pre) f) in
-          let there = in-mem (Memᴰ·map (second n) (mem-in b (without post pre) (subst T (sym (mem-without b post pre)) j))) in
-          imp-elim (mem b post && not (mem b pre)) (not (m b))
+          let j = and-both (mem b post) (not (excused b)) i (not-in (excused b) f) in
+          let there = in-mem (Memᴰ·map (second n) (mem-in b filled (subst T (sym (mem-unexcused n b post pre)) j))) in
+          imp-elim (mem b post && not (excused b)) (not (m b))
           (subst T (second-asked b (s .post-in e b h i)) (at (second n b) (or-right (mem (second n b) pre) (mem (second n b) seconds) there))) j
+
+  -- a postcondition that holds is excused
+  meets : T (concession n m e) → (b : ℕ) → T (mem b post) → T (m b) → T (excused b)
+  meets t b i held = subst T (free-excused b) (unblocked n m e t b i held)
 
   supplied : T (concession n m e) → T (all (asked n k e) (doubled n .inputs e))
   supplied t =
       all-of (asked n k e) (doubled n .inputs e)
-      (λ x i. or-cases (mem x pre) (mem x seconds) (subst T (in-inputs x) i) (first x) (λ j. second-of x (Memᴰ·of-map (second n) (without post pre) (mem-in x seconds j))))
+      (λ x i. or-cases (mem x pre) (mem x seconds) (subst T (in-inputs x) i) (first x) (λ j. second-of x (Memᴰ·of-map (second n) filled (mem-in x seconds j))))
     where
       first : (x : ℕ) → T (mem x pre) → T (asked n k e x)
       first x i = subst T (sym (first-asked x (s .pre-in e x h i))) (imp-intro (mem x pre) (m x) (λ j. pre-holds n m e t x j))
 
-      empty : (b : ℕ) → T (mem b post && not (mem b pre)) → T (not (m b))
+      empty : (b : ℕ) → T (mem b post && not (excused b)) → T (not (m b))
       empty b i =
-          not-in (m b) (λ held. not-out (mem b pre) (and-right (mem b post) (not (mem b pre)) i)
-          (free-pre n e b (o b) (unblocked n m e t b (and-left (mem b post) (not (mem b pre)) i) held)))
+          not-in (m b) (λ held. not-out (excused b) (and-right (mem b post) (not (excused b)) i)
+          (meets t b (and-left (mem b post) (not (excused b)) i) held))
 
-      second-of : (x : ℕ) → (b : ℕ) × (b ∈ without post pre) × (second n b ≡ x) → T (asked n k e x)
+      second-of : (x : ℕ) → (b : ℕ) × (b ∈ filled) × (second n b ≡ x) → T (asked n k e x)
       second-of x r =
           let b = r .0 in
-          let i = subst T (mem-without b post pre) (in-mem (r .1)) in
+          let i = subst T (mem-unexcused n b post pre) (in-mem (r .1)) in
           subst (λ (x : ℕ). T (asked n k e x)) (r .2)
-          (subst T (sym (second-asked b (s .post-in e b h (and-left (mem b post) (not (mem b pre)) i)))) (imp-intro (mem b post && not (mem b pre)) (not (m b)) (empty b)))
+          (subst T (sym (second-asked b (s .post-in e b h (and-left (mem b post) (not (excused b)) i)))) (imp-intro (mem b post && not (excused b)) (not (m b)) (empty b)))
 
   -- ---- the mirror is kept
 
@@ -163,13 +183,14 @@ module _ (n : Net) (s : Sound n) (o : (b : ℕ) → n .persistent b ≡ false) (
   unfolding fire moved
   kept t =
       record {
-        first-place = λ b l. rw (taken-first b l, put-first b l, q .first-place b l, o b) (first-after (mem b pre) (mem b post) (m b) (pre-holds n m e t b) (meets b));
-        second-place = λ b l. rw (taken-second b, put-second b, q .second-place b l, o b) (second-after (mem b pre) (mem b post) (m b) (pre-holds n m e t b) (meets b));
+        first-place = λ b l. rw (taken-first b l, put-first b l, q .first-place b l, o b) (first-after (mem b pre) (mem b post) (m b) (pre-holds n m e t b) (taken b));
+        second-place = λ b l.
+            rw (taken-second b, put-second b, q .second-place b l, o b)
+            (second-after (mem b pre) (mem b post) (n .old b) (m b) (pre-holds n m e t b) (meets t b));
       }
     where
-      -- a postcondition that holds is a precondition
-      meets : (b : ℕ) → T (mem b post) → T (m b) → T (mem b pre)
-      meets b i held = free-pre n e b (o b) (unblocked n m e t b i held)
+      taken : (b : ℕ) → T (mem b post) → T (m b) → T (mem b pre)
+      taken b i held = and-left (mem b pre) (not (n .old b)) (meets t b i held)
 
 -- A step of the doubled net is a step of its net, and after it the tokens still mirror the marking.
 pub steps-alike : (n : Net) → Sound n → ((b : ℕ) → n .persistent b ≡ false) → (m : Marking) (k : Tokens) → Mirrors n m k → (e : ℕ) → StepsAlike n m k e

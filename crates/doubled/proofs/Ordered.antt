@@ -12,7 +12,7 @@ use Rattle.lists.proofs.Tests.{fits-of}
 use Rattle.model.specs.Net.{Net, Sound}
 use Rattle.model.specs.Unfolding.{basic}
 use Rattle.model.proofs.Sets.{basic-sound}
-use Rattle.doubled.specs.Doubling.{without, second, doubled}
+use Rattle.doubled.specs.Doubling.{without, excusing, second, doubled}
 use Rattle.lists.proofs.Distinct.{count-ascends}
 use Rattle.doubled.proofs.Counting.{without-ascends, mem-without}
 
@@ -52,16 +52,16 @@ module _ (n : Net) where
     pub inputs-fit : (e : ℕ) → e < n .events → T (fits (doubled n .places) (doubled n .inputs e))
     unfolding doubled
     inputs-fit e h =
-        both-fit (n .preconditions e) (without (n .postconditions e) (n .preconditions e)) (s .pre-ascends e h) (λ b. s .pre-in e b h)
-        (without-ascends (n .postconditions e) (n .preconditions e) (s .post-ascends e h))
-        (kept-in (n .postconditions e) (n .preconditions e) (λ b. s .post-in e b h))
+        both-fit (n .preconditions e) (without (n .postconditions e) (excusing n (n .preconditions e))) (s .pre-ascends e h) (λ b. s .pre-in e b h)
+        (without-ascends (n .postconditions e) (excusing n (n .preconditions e)) (s .post-ascends e h))
+        (kept-in (n .postconditions e) (excusing n (n .preconditions e)) (λ b. s .post-in e b h))
 
     pub outputs-fit : (e : ℕ) → e < n .events → T (fits (doubled n .places) (doubled n .outputs e))
     unfolding doubled
     outputs-fit e h =
-        both-fit (n .postconditions e) (without (n .preconditions e) (n .postconditions e)) (s .post-ascends e h) (λ b. s .post-in e b h)
-        (without-ascends (n .preconditions e) (n .postconditions e) (s .pre-ascends e h))
-        (kept-in (n .preconditions e) (n .postconditions e) (λ b. s .pre-in e b h))
+        both-fit (n .postconditions e) (without (n .preconditions e) (excusing n (n .postconditions e))) (s .post-ascends e h) (λ b. s .post-in e b h)
+        (without-ascends (n .preconditions e) (excusing n (n .postconditions e)) (s .pre-ascends e h))
+        (kept-in (n .preconditions e) (excusing n (n .postconditions e)) (λ b. s .pre-in e b h))
 
     -- the places that hold a token at first
     pub initial-fits : T (fits (doubled n .places) (doubled n .initial))

@@ -13,20 +13,25 @@ use Rattle.doubled.specs.Plain.{Plain, Tokens, initially, enabled, moved
 unfoldable pub without : List ℕ → List ℕ → List ℕ
 without l other = keep (λ b. not (mem b other)) l
 
+-- The members of a list that follow the paper's rule (02, No. 4).
+unfoldable pub excusing : Net → List ℕ → List ℕ
+excusing n l = keep (λ b. not (n .old b)) l
+
 -- The second place of a condition: all of them come after the first places (02, No. 1).
 abbrev pub second : Net → ℕ → ℕ
 second n b = n .conditions + b
 
 -- The doubled net: a transition takes the second place of each postcondition that is no precondition, and puts that of each precondition
--- that is no postcondition; a second place holds a token at first where the condition does not hold (02, No. 1).
+-- that is no postcondition; of what is both it takes and puts back the second place under the old rule; a second place holds a token at
+-- first where the condition does not hold (02, No. 1 and No. 4).
 unfoldable pub doubled : Net → Plain
-unfolding without
+unfolding without excusing
 doubled n =
     record {
       places = n .conditions + n .conditions;
       transitions = n .events;
-      inputs = λ e. n .preconditions e ++ map (second n) (without (n .postconditions e) (n .preconditions e));
-      outputs = λ e. n .postconditions e ++ map (second n) (without (n .preconditions e) (n .postconditions e));
+      inputs = λ e. n .preconditions e ++ map (second n) (without (n .postconditions e) (excusing n (n .preconditions e)));
+      outputs = λ e. n .postconditions e ++ map (second n) (without (n .preconditions e) (excusing n (n .postconditions e)));
       initial = n .start ++ map (second n) (without (count 0 (n .conditions)) (n .start));
     }
 

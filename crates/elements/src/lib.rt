@@ -41,7 +41,7 @@ pub struct Written {
 fn condition_count<'a>(table: &'a [u8], bases: &'a [u32]) -> usize
     ensures { λ r. ⌜ r ≡ getD (now (bases .entry)) (conditions (now (table .entry))) 0 ⌝ }
 {
-    tally::number(bases, words::word(table, 0) as usize) as usize
+    tally::number(bases, records::conditions(table) as usize) as usize
 }
 
 // How many elements the export of a table has that is laid out.

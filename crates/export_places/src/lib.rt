@@ -55,7 +55,7 @@ fn link_at(table: &[u8], spot: Spot, starts: &[u32]) -> Link
 {
     let range = spot.range;
     let place = (starts[range] + spot.offset) as usize;
-    if range < 4 * words::word(table, 0) as usize {
+    if range < 4 * records::conditions(table) as usize {
         return Link::Into(place, spot.transition);
     }
     Link::OutOf(spot.transition, place)

@@ -2,7 +2,6 @@
 use mathlib.Core.Path.{_≡_}
 use mathlib.Core.Bool.{Bool, true, false, cond}
 use Prim.Native.Nat.{_+_, _≤_}
-use lib.Dec.{eqb}
 use native.Mathlib.Omega.{arith}
 use Rattle.segments.specs.declared.Segment.{Segment}
 use Rattle.segments.specs.Ranges.{aloneOf, joinedOf}
@@ -44,9 +43,9 @@ side-low side g l = apart (sideOf side g) (go side)
 
     go : (z : Side) → Between 0 65537 (sideOf z g)
     go Takes = alone-between 0 65537 (g .number) (g .takes) (omega arith) (omega (arith, l .number, l .takes))
-    go Fills = filled (eqb (g .takes) 1)
-    go Puts = put (g .puts)
-    go Empties = emptied (g .puts)
+    go Fills = filled (g .back)
+    go Puts = put (g .back)
+    go Empties = emptied (g .back)
 
 pub share-by : (g h : Share) → g ≡ h → Small h → (g .number ≤ 65536) × (g .takes ≤ 1) × (g .first + g .size ≤ 65536)
 share-by g h z l = rw z (l .number, l .takes, l .range)

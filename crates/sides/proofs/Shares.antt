@@ -10,7 +10,7 @@ use borrow.Author.Tests.{le-ltb, lt-ltb}
 use Rattle.lists.specs.Lists.{mem, sum, places-from}
 use Rattle.model.specs.Net.{Net}
 use Rattle.model.specs.Runs.{Marker, atStart, byEvent}
-use Rattle.model.specs.Unfolding.{sameMarker, UnfoldedCondition, ordinary, copy, markers, users, copies, UnfoldedEvent, reads, picked, takes, puts}
+use Rattle.model.specs.Unfolding.{sameMarker, UnfoldedCondition, ordinary, copy, markers, users, copies, UnfoldedEvent, reads, picked, takes, puts, follows}
 use Rattle.model.specs.Numbering.{width}
 use Rattle.segments.specs.declared.Segment.{Segment}
 use Rattle.segments.specs.Ranges.{within}
@@ -31,12 +31,12 @@ onSide Fills t m = m && not t
 onSide Puts t m = t || m
 onSide Empties t m = false
 
-filled-is : (t m : Bool) → ((t || m) && not t) ≡ (m && not t)
+filled-is : (t m : Bool) → ((t || m) && not (t && not false)) ≡ (m && not t)
 filled-is true true = refl
 filled-is true false = refl
 filled-is false m = refl
 
-none-emptied : (t m : Bool) → (t && not (t || m)) ≡ false
+none-emptied : (t m : Bool) → (t && not ((t || m) && not false)) ≡ false
 none-emptied true m = refl
 none-emptied false m = refl
 
@@ -59,7 +59,7 @@ module _ (n : Net) (b : ℕ) (p : n .persistent b ≡ true) (e : ℕ) (h : e < n
   wide = size n b p true e h colour
 
   copy-sided : (side : Side) (m : Marker) (u : ℕ) → sided n side x (copy b m u) ≡ onSide side (takes n x (copy b m u)) (sameMarker m (byEvent e) && mem b (n .postconditions e))
-  unfolding puts
+  unfolding puts follows
   copy-sided Takes m u = refl
   copy-sided Fills m u = filled-is (takes n x (copy b m u)) (sameMarker m (byEvent e) && mem b (n .postconditions e))
   copy-sided Puts m u = refl
@@ -123,39 +123,44 @@ module _ (n : Net) (b : ℕ) (p : n .persistent b ≡ true) (e : ℕ) (h : e < n
 -- ---- an ordinary condition
 
 module _ (base : ℕ) where
-  -- whether it is taken, and put
-  abbrev self : Bool → Bool → Share
-  self t m = shareOf base (cond t 1 0) m base (cond m 1 0)
+  -- whether it is taken, whether put, and whether it is under the old rule
+  abbrev self : Bool → Bool → Bool → Share
+  self t m o = shareOf base (cond t 1 0) (t && m && not o) base (cond m 1 0)
 
-  abbrev only : Side → Bool → Bool → Bool
-  only Takes t m = t
-  only Fills t m = m && not t
-  only Puts t m = m
-  only Empties t m = t && not m
+  abbrev only : Side → Bool → Bool → Bool → Bool
+  only Takes t m o = t
+  only Fills t m o = m && not (t && not o)
+  only Puts t m o = m
+  only Empties t m o = t && not (m && not o)
 
-  self-side : (side : Side) (t m : Bool) → within (sideOf side (self t m)) ≡ cond (only side t m) (base ∷ []) []
-  self-side Takes true m = refl
-  self-side Takes false m = refl
-  self-side Fills true true =
+  self-side : (side : Side) (t m o : Bool) → within (sideOf side (self t m o)) ≡ cond (only side t m o) (base ∷ []) []
+  self-side Takes true m o = refl
+  self-side Takes false m o = refl
+  self-side Fills true true true = refl
+  self-side Fills true true false =
       let z : base - base ≡ 0 = omega arith in
       let w : (base + 1) - (base + 1) ≡ 0 = omega arith in
       rw (le-ltb base base (omega arith), lt-ltb base (base + 1) (omega arith), z, w)
-  self-side Fills true false = rw (le-ltb base base (omega arith), le-ltb base (base + 0) (omega arith))
-  self-side Fills false true = refl
-  self-side Fills false false = refl
-  self-side Puts t true = rw (le-ltb base base (omega arith), lt-ltb base (base + 1) (omega arith))
-  self-side Puts t false = refl
-  self-side Empties true true = refl
-  self-side Empties true false = refl
-  self-side Empties false true = refl
-  self-side Empties false false = refl
+  self-side Fills true false o = refl
+  self-side Fills false true o = refl
+  self-side Fills false false o = refl
+  self-side Puts true true true = refl
+  self-side Puts true true false = rw (le-ltb base base (omega arith), lt-ltb base (base + 1) (omega arith))
+  self-side Puts true false o = refl
+  self-side Puts false true o = refl
+  self-side Puts false false o = refl
+  self-side Empties true true true = refl
+  self-side Empties true true false = refl
+  self-side Empties true false o = refl
+  self-side Empties false m o = refl
 
 module _ (n : Net) (b : ℕ) (p : n .persistent b ≡ false) (x : UnfoldedEvent) where
-  pub ordinary-shared : (side : Side) → within (sideOf side (self (sum (width n) b) (mem b (n .preconditions (x .event))) (mem b (n .postconditions (x .event))))) ≡ addedOn n side x b
-  unfolding addedOn copies takes puts
-  ordinary-shared side = rw p (self-side (sum (width n) b) side (mem b (n .preconditions (x .event))) (mem b (n .postconditions (x .event))) ∙ same side)
+  pub ordinary-shared : (side : Side)
+      → within (sideOf side (self (sum (width n) b) (mem b (n .preconditions (x .event))) (mem b (n .postconditions (x .event))) (n .old b))) ≡ addedOn n side x b
+  unfolding addedOn copies takes puts follows
+  ordinary-shared side = rw p (self-side (sum (width n) b) side (mem b (n .preconditions (x .event))) (mem b (n .postconditions (x .event))) (n .old b) ∙ same side)
     where
-      same : (z : Side) → cond (only (sum (width n) b) z (mem b (n .preconditions (x .event))) (mem b (n .postconditions (x .event)))) (sum (width n) b ∷ []) []
+      same : (z : Side) → cond (only (sum (width n) b) z (mem b (n .preconditions (x .event))) (mem b (n .postconditions (x .event))) (n .old b)) (sum (width n) b ∷ []) []
           ≡ places-from (sum (width n) b) (sided n z x) (ordinary b ∷ [])
       same Takes = refl
       same Fills = refl

@@ -5,19 +5,20 @@ use mathlib.Core.List.{List}
 use lib.Dec.{ltb}
 use Rattle.lists.specs.Lists.{places-from, sum}
 use Rattle.model.specs.Net.{Net}
-use Rattle.model.specs.Unfolding.{copies, UnfoldedEvent, UnfoldedCondition, takes, puts}
+use Rattle.model.specs.Unfolding.{copies, UnfoldedEvent, UnfoldedCondition, takes, puts, follows}
 use Rattle.model.specs.Numbering.{width}
 use Rattle.segments.specs.declared.Segment.{Segment}
 use Rattle.segments.specs.Ranges.{aloneOf, Known}
 use Rattle.sides.specs.declared.Side.{Side}
 use Rattle.sides.specs.declared.Side.the-variants.{Takes, Fills, Puts, Empties}
 
--- An unfolded condition is on a side of an unfolded event: it is taken, put without being taken, put, or taken without being put (02, No. 1).
+-- An unfolded condition is on a side of an unfolded event: it is taken, put without being taken, put, or taken without being put; what
+-- follows the old rule is filled and emptied even where it is both (02, No. 1 and No. 4).
 abbrev pub sided : Net → Side → UnfoldedEvent → UnfoldedCondition → Bool
 sided n Takes x p = takes n x p
-sided n Fills x p = puts n x p && not (takes n x p)
+sided n Fills x p = puts n x p && not (takes n x p && not (follows n p))
 sided n Puts x p = puts n x p
-sided n Empties x p = takes n x p && not (puts n x p)
+sided n Empties x p = takes n x p && not (puts n x p && not (follows n p))
 
 -- The numbers that condition b adds to a side of an unfolded event (02, No. 1).
 unfoldable pub addedOn : Net → Side → UnfoldedEvent → ℕ → List ℕ

@@ -12,7 +12,8 @@ ghost use Rattle.segments.specs.Ranges.{ranged, within, eventAt};
 ghost use Rattle.sides.specs.Sides.{addedOn, partedOf, Sided};
 ghost use Rattle.sides.specs.Shares.{shareOf, shareAt, sideOf, Sharing};
 
-// What an unfolded event does: it takes, it fills what it did not take, it puts, it empties what it does not put back.
+// What an unfolded event does: it takes, it fills what it did not take, it puts, it empties what it does not put back; under the old rule
+// what is both is filled and emptied too.
 pub enum Side {
     Takes,
     Fills,
@@ -20,24 +21,24 @@ pub enum Side {
     Empties,
 }
 
-// What an unfolded event has of one condition of the table: a number, whether it takes and whether it puts that, and the range of those
-// that its event marks.
+// What an unfolded event has of one condition of the table: a number, whether it takes that, whether it gives it back by the paper's rule,
+// and the range of those that its event marks.
 struct Share {
     number: u32,
     takes: u32,
-    puts: bool,
+    back: bool,
     first: u32,
     size: u32,
 }
 
 // Such a share, from its parts.
-fn shared(number: u32, takes: u32, puts: bool, first: u32, size: u32) -> Share
-    ensures { λ r. ⌜ r ≡ shareOf number takes puts first size ⌝ }
+fn shared(number: u32, takes: u32, back: bool, first: u32, size: u32) -> Share
+    ensures { λ r. ⌜ r ≡ shareOf number takes back first size ⌝ }
 {
     Share {
         number,
         takes,
-        puts,
+        back,
         first,
         size,
     }
@@ -62,7 +63,8 @@ fn parted(taken: u32, first: u32, size: u32) -> Segment
     segments::alone(first, size)
 }
 
-// What an unfolded event has of condition b: of a persistent one the copy that it takes and gives back, and all copies that its event marks.
+// What an unfolded event has of condition b: of a persistent one the copy that it takes and gives back, and all copies that its event marks;
+// an ordinary one is given back only by the paper's rule.
 fn share_at<'a>(
     table: &'a [u8],
     users: &'a [u32],
@@ -72,10 +74,11 @@ fn share_at<'a>(
     chosen: &'a [u32],
     before: &'a [u32],
     after: &'a [u32],
+    paper: bool,
     b: usize,
 ) -> Share
     requires { ⌜ Sharing (now table) (now users) (now bases) (now marks) (now uses) (now chosen) (now before) b ⌝ }
-    ensures { λ r. ⌜ r ≡ shareAt (now (table .entry)) (now (users .entry)) (now (bases .entry)) (now (marks .entry)) (now (uses .entry)) (now (chosen .entry)) (now (before .entry)) (now (after .entry)) b ⌝ }
+    ensures { λ r. ⌜ r ≡ shareAt (now (table .entry)) (now (users .entry)) (now (bases .entry)) (now (marks .entry)) (now (uses .entry)) (now (chosen .entry)) (now (before .entry)) (now (after .entry)) paper b ⌝ }
 {
     let base = tally::number(bases, b);
     let takes = segments::size_if(true, before, b, 1);
@@ -90,7 +93,8 @@ fn share_at<'a>(
         return shared(first, takes, false, first, size);
     }
     let size = segments::size_if(true, after, b, 1);
-    shared(base, takes, size == 1, base, size)
+    let back = segments::size_if(paper, after, b, takes);
+    shared(base, takes, back == 1, base, size)
 }
 
 // The numbers of a share that are on a side.
@@ -101,19 +105,19 @@ fn side_of(share: Share, side: Side) -> Segment
     match side {
         Side::Takes => segments::alone(share.number, share.takes),
         Side::Fills => {
-            if share.takes == 1 {
+            if share.back {
                 return parted(share.number, share.first, share.size);
             }
             segments::alone(share.first, share.size)
         }
         Side::Puts => {
-            if share.puts {
+            if share.back {
                 return segments::joined(share.number, share.first, share.size);
             }
             segments::alone(share.first, share.size)
         }
         Side::Empties => {
-            if share.puts {
+            if share.back {
                 return segments::alone(share.number, 0);
             }
             segments::alone(share.number, share.takes)
@@ -156,10 +160,22 @@ pub fn lay_side<'a>(
     requires { ⌜ shift ≤ 65535 ⌝ }
     ensures { λ _. ⌜ ranged (now (starts .exit)) (now (sizes .exit)) (2 * conditions (now (table .entry))) ≡ map (λ x. shift + x) (spread (addedOn (netOf (now (table .entry))) side (eventAt (netOf (now (table .entry))) (own .event) (own .rest))) (count 0 (conditions (now (table .entry))))) ⌝ }
 {
-    let n = words::word(table, 0) as usize;
+    let n = records::conditions(table) as usize;
+    let paper = !records::old_rule(table);
     let mut b: usize = 0;
     while b < n {
-        let share = share_at(table, users, bases, marks, uses, chosen, before, after, b);
+        let share = share_at(
+            table,
+            users,
+            bases,
+            marks,
+            uses,
+            chosen,
+            before,
+            after,
+            paper,
+            b,
+        );
         let g = shifted(side_of(share, side), shift);
         segments::keep_segment(g, b, starts, sizes);
         b = b + 1;

@@ -50,7 +50,7 @@ fn next_range(sizes: &[u32], ranges: usize, from: usize) -> usize
 fn range_count(table: &[u8]) -> usize
     ensures { λ r. ⌜ r ≡ 8 * conditions (now (table .entry)) ⌝ }
 {
-    8 * words::word(table, 0) as usize
+    8 * records::conditions(table) as usize
 }
 
 // The next arc of the same transition.

@@ -24,49 +24,49 @@ abbrev μ-loop : tie.MeasureT-loop
 
 loop-holds : tie.Need-loop-holds Inv-loop μ-loop
 loop-holds c =
-    (omega arith, c .before .before .before .before .before .before .before .before .before .before .before .pre .1 .1, c .before .before .before .before .before .before .before .before .before .before .before .pre .1 .2, none-laid (c .before .before .before .before .before .before .before .before .before .before .before .args .table .now) (getD (c .before .before .before .before .before .before .before .before .before .before .before .args .bases .now) (c .word .result) 0) (c .before .before .before .before .before .before .before .before .before .before .before .args .own .event) (c .before .before .before .before .before .before .before .before .before .before .before .args .own .rest) (c .before .before .before .before .before .before .before .before .before .before .before .args .starts .now) (c .before .before .before .before .before .before .before .before .before .before .before .args .sizes .now) (c .word .result))
+    (omega arith, c .before .before .before .before .before .before .before .before .before .before .before .pre .1 .1, c .before .before .before .before .before .before .before .before .before .before .before .pre .1 .2, none-laid (c .before .before .before .before .before .before .before .before .before .before .before .args .table .now) (getD (c .before .before .before .before .before .before .before .before .before .before .before .args .bases .now) (c .conditions .result) 0) (c .before .before .before .before .before .before .before .before .before .before .before .args .own .event) (c .before .before .before .before .before .before .before .before .before .before .before .args .own .rest) (c .before .before .before .before .before .before .before .before .before .before .before .args .starts .now) (c .before .before .before .before .before .before .before .before .before .before .before .args .sizes .now) (c .conditions .result))
 
 mul-at-2 : tie.Need-mul-at-2 Inv-loop μ-loop
 mul-at-2 c =
-    omega (arith, side-room (c .before .before .before .before .before .before .before .before .before .before .before .before .before .pre .0) (c .before .before .word .result) (c .before .before .word .ensures) (c .before .loop .i) (omega (arith, c .loop-test .taken)))
+    omega (arith, side-room (c .before .before .before .before .before .before .before .before .before .before .before .before .before .pre .0) (c .before .before .conditions .result) (c .before .before .conditions .ensures) (c .before .loop .i) (omega (arith, c .loop-test .taken)))
 
 mul-lay-side : tie.Need-mul-lay-side Inv-loop μ-loop
 mul-lay-side c =
-    omega (arith, side-room (c .before .before .before .before .before .before .before .before .before .before .before .before .before .before .before .before .pre .0) (c .before .before .before .before .before .word .result) (c .before .before .before .before .before .word .ensures) (c .before .before .before .before .loop .i) (omega (arith, c .before .before .before .loop-test .taken)))
+    omega (arith, side-room (c .before .before .before .before .before .before .before .before .before .before .before .before .before .before .before .before .pre .0) (c .before .before .before .before .before .conditions .result) (c .before .before .before .before .before .conditions .ensures) (c .before .before .before .before .loop .i) (omega (arith, c .before .before .before .loop-test .taken)))
 
 sub-lay-side : tie.Need-sub-lay-side Inv-loop μ-loop
 sub-lay-side c =
-    omega (arith, side-room (c .before .before .before .before .before .before .before .before .before .before .before .before .before .before .before .before .pre .0) (c .before .before .before .before .before .word .result) (c .before .before .before .before .before .word .ensures) (c .before .before .before .before .loop .i) (omega (arith, c .before .before .before .loop-test .taken)), c .before .before .before .before .loop .inv .1)
+    omega (arith, side-room (c .before .before .before .before .before .before .before .before .before .before .before .before .before .before .before .before .pre .0) (c .before .before .before .before .before .conditions .result) (c .before .before .before .before .before .conditions .ensures) (c .before .before .before .before .loop .i) (omega (arith, c .before .before .before .loop-test .taken)), c .before .before .before .before .loop .inv .1)
 
 part-lay-side-start : tie.Need-part-lay-side-start Inv-loop μ-loop
 part-lay-side-start c =
-    omega (arith, side-room (c .before .before .before .before .before .before .before .before .before .before .before .before .before .before .before .before .pre .0) (c .before .before .before .before .before .word .result) (c .before .before .before .before .before .word .ensures) (c .before .before .before .before .loop .i) (omega (arith, c .before .before .before .loop-test .taken)), c .before .before .before .before .loop .inv .1)
+    omega (arith, side-room (c .before .before .before .before .before .before .before .before .before .before .before .before .before .before .before .before .pre .0) (c .before .before .before .before .before .conditions .result) (c .before .before .before .before .before .conditions .ensures) (c .before .before .before .before .loop .i) (omega (arith, c .before .before .before .loop-test .taken)), c .before .before .before .before .loop .inv .1)
 
 mul-lay-side-2 : tie.Need-mul-lay-side-2 Inv-loop μ-loop
 mul-lay-side-2 c =
-    omega (arith, side-room (c .before .before .before .before .before .before .before .before .before .before .before .before .before .before .before .before .before .pre .0) (c .before .before .before .before .before .before .word .result) (c .before .before .before .before .before .before .word .ensures) (c .before .before .before .before .before .loop .i) (omega (arith, c .before .before .before .before .loop-test .taken)))
+    omega (arith, side-room (c .before .before .before .before .before .before .before .before .before .before .before .before .before .before .before .before .before .pre .0) (c .before .before .before .before .before .before .conditions .result) (c .before .before .before .before .before .before .conditions .ensures) (c .before .before .before .before .before .loop .i) (omega (arith, c .before .before .before .before .loop-test .taken)))
 
 sub-lay-side-2 : tie.Need-sub-lay-side-2 Inv-loop μ-loop
 sub-lay-side-2 c =
-    omega (arith, side-room (c .before .before .before .before .before .before .before .before .before .before .before .before .before .before .before .before .before .pre .0) (c .before .before .before .before .before .before .word .result) (c .before .before .before .before .before .before .word .ensures) (c .before .before .before .before .before .loop .i) (omega (arith, c .before .before .before .before .loop-test .taken)), c .before .before .before .before .before .loop .inv .2)
+    omega (arith, side-room (c .before .before .before .before .before .before .before .before .before .before .before .before .before .before .before .before .before .pre .0) (c .before .before .before .before .before .before .conditions .result) (c .before .before .before .before .before .before .conditions .ensures) (c .before .before .before .before .before .loop .i) (omega (arith, c .before .before .before .before .loop-test .taken)), c .before .before .before .before .before .loop .inv .2)
 
 part-lay-side-start-2 : tie.Need-part-lay-side-start-2 Inv-loop μ-loop
 part-lay-side-start-2 c =
-    omega (arith, side-room (c .before .before .before .before .before .before .before .before .before .before .before .before .before .before .before .before .before .pre .0) (c .before .before .before .before .before .before .word .result) (c .before .before .before .before .before .before .word .ensures) (c .before .before .before .before .before .loop .i) (omega (arith, c .before .before .before .before .loop-test .taken)), c .before .before .before .before .before .loop .inv .2)
+    omega (arith, side-room (c .before .before .before .before .before .before .before .before .before .before .before .before .before .before .before .before .before .pre .0) (c .before .before .before .before .before .before .conditions .result) (c .before .before .before .before .before .before .conditions .ensures) (c .before .before .before .before .before .loop .i) (omega (arith, c .before .before .before .before .loop-test .taken)), c .before .before .before .before .before .loop .inv .2)
 
 lay-side-requires : tie.Need-lay-side-requires Inv-loop μ-loop
 lay-side-requires c κs =
-    let room = side-room (c .before .before .before .before .before .before .before .before .before .before .before .before .before .before .before .before .before .before .pre .0) (c .before .before .before .before .before .before .before .word .result) (c .before .before .before .before .before .before .before .word .ensures) (c .before .before .before .before .before .before .loop .i) (omega (arith, c .before .before .before .before .before .loop-test .taken)) in
-    (c .before .before .before .before .before .before .before .before .before .before .before .before .before .before .before .before .before .before .pre .0, (conditions-all (c .before .before .before .before .before .before .before .before .before .before .before .before .before .before .before .before .before .before .pre .0) (c .before .before .before .before .before .before .before .word .result) (c .before .before .before .before .before .before .before .word .ensures), ((part-room (c .before .before .before .before .before .before .loop .i * (2 * c .before .before .before .before .before .before .before .word .result)) (2 * conditions (c .before .before .before .before .before .before .before .before .before .before .before .before .before .before .before .before .before .before .args .table .now)) (c .before .before .before .before .before .before .loop .starts) (omega (arith, room, c .before .before .before .before .before .before .before .word .ensures, c .before .before .before .before .before .before .loop .inv .1)), part-room (c .before .before .before .before .before .before .loop .i * (2 * c .before .before .before .before .before .before .before .word .result)) (2 * conditions (c .before .before .before .before .before .before .before .before .before .before .before .before .before .before .before .before .before .before .args .table .now)) (c .before .before .before .before .before .before .loop .sizes) (omega (arith, room, c .before .before .before .before .before .before .before .word .ensures, c .before .before .before .before .before .before .loop .inv .2))), shift-few (c .before .before .before .before .before .before .before .before .before .before .before .before .before .before .before .before .before .before .pre .0) (c .before .before .before .before .before .before .before .word .result) (c .before .before .before .before .before .before .before .word .ensures) (getD (c .before .before .before .before .before .before .before .before .before .before .before .before .before .before .before .before .before .before .args .bases .now) (c .before .before .before .before .before .before .before .word .result) 0) refl (sideAt (c .before .before .before .before .before .before .loop .i)) (c .before .before .shift-at .result) (c .before .before .shift-at .ensures ∙ ap (λ (k : ℕ). shiftOf k (sideAt (c .before .before .before .before .before .before .loop .i))) (c .before .before .before .number .ensures)))))
+    let room = side-room (c .before .before .before .before .before .before .before .before .before .before .before .before .before .before .before .before .before .before .pre .0) (c .before .before .before .before .before .before .before .conditions .result) (c .before .before .before .before .before .before .before .conditions .ensures) (c .before .before .before .before .before .before .loop .i) (omega (arith, c .before .before .before .before .before .loop-test .taken)) in
+    (c .before .before .before .before .before .before .before .before .before .before .before .before .before .before .before .before .before .before .pre .0, (conditions-all (c .before .before .before .before .before .before .before .before .before .before .before .before .before .before .before .before .before .before .pre .0) (c .before .before .before .before .before .before .before .conditions .result) (c .before .before .before .before .before .before .before .conditions .ensures), ((part-room (c .before .before .before .before .before .before .loop .i * (2 * c .before .before .before .before .before .before .before .conditions .result)) (2 * conditions (c .before .before .before .before .before .before .before .before .before .before .before .before .before .before .before .before .before .before .args .table .now)) (c .before .before .before .before .before .before .loop .starts) (omega (arith, room, c .before .before .before .before .before .before .before .conditions .ensures, c .before .before .before .before .before .before .loop .inv .1)), part-room (c .before .before .before .before .before .before .loop .i * (2 * c .before .before .before .before .before .before .before .conditions .result)) (2 * conditions (c .before .before .before .before .before .before .before .before .before .before .before .before .before .before .before .before .before .before .args .table .now)) (c .before .before .before .before .before .before .loop .sizes) (omega (arith, room, c .before .before .before .before .before .before .before .conditions .ensures, c .before .before .before .before .before .before .loop .inv .2))), shift-few (c .before .before .before .before .before .before .before .before .before .before .before .before .before .before .before .before .before .before .pre .0) (c .before .before .before .before .before .before .before .conditions .result) (c .before .before .before .before .before .before .before .conditions .ensures) (getD (c .before .before .before .before .before .before .before .before .before .before .before .before .before .before .before .before .before .before .args .bases .now) (c .before .before .before .before .before .before .before .conditions .result) 0) refl (sideAt (c .before .before .before .before .before .before .loop .i)) (c .before .before .shift-at .result) (c .before .before .shift-at .ensures ∙ ap (λ (k : ℕ). shiftOf k (sideAt (c .before .before .before .before .before .before .loop .i))) (c .before .before .before .number .ensures)))))
 
 loop-again : tie.Need-loop-again Inv-loop μ-loop
 loop-again c =
-    let room = side-room (c .before .before .before .before .before .before .before .before .before .before .before .before .before .before .before .before .before .before .before .before .before .before .before .pre .0) (c .before .before .before .before .before .before .before .before .before .before .before .before .word .result) (c .before .before .before .before .before .before .before .before .before .before .before .before .word .ensures) (c .before .before .before .before .before .before .before .before .before .before .before .loop .i) (omega (arith, c .before .before .before .before .before .before .before .before .before .before .loop-test .taken)) in
-    (omega arith, search needs, search needs, part-laid (c .before .before .before .before .before .before .before .before .before .before .before .before .before .before .before .before .before .before .before .before .before .before .before .args .table .now) (getD (c .before .before .before .before .before .before .before .before .before .before .before .before .before .before .before .before .before .before .before .before .before .before .before .args .bases .now) (c .before .before .before .before .before .before .before .before .before .before .before .before .word .result) 0) (c .before .before .before .before .before .before .before .before .before .before .before .before .before .before .before .before .before .before .before .before .before .before .before .args .own .event) (c .before .before .before .before .before .before .before .before .before .before .before .before .before .before .before .before .before .before .before .before .before .before .before .args .own .rest) (c .before .before .before .before .before .before .before .before .before .before .before .loop .starts) (c .before .before .before .before .before .before .before .before .before .before .before .loop .sizes) (c .before .before .before .before .lay-side .last .1 .1 .1 .1 .1 .1 .1 .1 .1 .1 .1 .0) (c .before .before .before .before .lay-side .last .1 .1 .1 .1 .1 .1 .1 .1 .1 .1 .1 .1 .0) (c .before .before .before .before .before .before .before .before .before .before .before .before .word .result) (c .before .before .before .before .before .before .before .before .before .before .before .loop .i) (omega (arith, room, c .before .before .before .before .before .before .before .before .before .before .before .loop .inv .1)) (omega (arith, room, c .before .before .before .before .before .before .before .before .before .before .before .loop .inv .2)) (c .before .before .before .before .before .before .before .before .before .before .before .loop .inv .3) (side-is (c .before .before .before .before .before .before .before .before .before .before .before .before .before .before .before .before .before .before .before .before .before .before .before .args .table .now) (getD (c .before .before .before .before .before .before .before .before .before .before .before .before .before .before .before .before .before .before .before .before .before .before .before .args .bases .now) (c .before .before .before .before .before .before .before .before .before .before .before .before .word .result) 0) (c .before .before .before .before .before .before .before .before .before .before .before .before .before .before .before .before .before .before .before .before .before .before .before .args .own .event) (c .before .before .before .before .before .before .before .before .before .before .before .before .before .before .before .before .before .before .before .before .before .before .before .args .own .rest) (c .before .before .before .before .lay-side .last .1 .1 .1 .1 .1 .1 .1 .1 .1 .1 .1 .0) (c .before .before .before .before .lay-side .last .1 .1 .1 .1 .1 .1 .1 .1 .1 .1 .1 .1 .0) (c .before .before .before .before .before .before .before .before .before .before .before .before .word .result) (c .before .before .before .before .before .before .before .before .before .before .before .loop .i) (c .before .before .before .before .before .before .before .before .before .before .before .before .word .ensures) (c .before .before .before .before .before .before .before .before .before .side-at .result) (c .before .before .before .before .before .before .before .before .before .side-at .ensures) (c .before .before .before .before .before .before .before .shift-at .result) (c .before .before .before .before .before .before .before .shift-at .ensures ∙ ap (λ (k : ℕ). shiftOf k (sideAt (c .before .before .before .before .before .before .before .before .before .before .before .loop .i))) (c .before .before .before .before .before .before .before .before .number .ensures)) (c .before .before .before .before .lay-side .ensures)))
+    let room = side-room (c .before .before .before .before .before .before .before .before .before .before .before .before .before .before .before .before .before .before .before .before .before .before .before .pre .0) (c .before .before .before .before .before .before .before .before .before .before .before .before .conditions .result) (c .before .before .before .before .before .before .before .before .before .before .before .before .conditions .ensures) (c .before .before .before .before .before .before .before .before .before .before .before .loop .i) (omega (arith, c .before .before .before .before .before .before .before .before .before .before .loop-test .taken)) in
+    (omega arith, search needs, search needs, part-laid (c .before .before .before .before .before .before .before .before .before .before .before .before .before .before .before .before .before .before .before .before .before .before .before .args .table .now) (getD (c .before .before .before .before .before .before .before .before .before .before .before .before .before .before .before .before .before .before .before .before .before .before .before .args .bases .now) (c .before .before .before .before .before .before .before .before .before .before .before .before .conditions .result) 0) (c .before .before .before .before .before .before .before .before .before .before .before .before .before .before .before .before .before .before .before .before .before .before .before .args .own .event) (c .before .before .before .before .before .before .before .before .before .before .before .before .before .before .before .before .before .before .before .before .before .before .before .args .own .rest) (c .before .before .before .before .before .before .before .before .before .before .before .loop .starts) (c .before .before .before .before .before .before .before .before .before .before .before .loop .sizes) (c .before .before .before .before .lay-side .last .1 .1 .1 .1 .1 .1 .1 .1 .1 .1 .1 .0) (c .before .before .before .before .lay-side .last .1 .1 .1 .1 .1 .1 .1 .1 .1 .1 .1 .1 .0) (c .before .before .before .before .before .before .before .before .before .before .before .before .conditions .result) (c .before .before .before .before .before .before .before .before .before .before .before .loop .i) (omega (arith, room, c .before .before .before .before .before .before .before .before .before .before .before .loop .inv .1)) (omega (arith, room, c .before .before .before .before .before .before .before .before .before .before .before .loop .inv .2)) (c .before .before .before .before .before .before .before .before .before .before .before .loop .inv .3) (side-is (c .before .before .before .before .before .before .before .before .before .before .before .before .before .before .before .before .before .before .before .before .before .before .before .args .table .now) (getD (c .before .before .before .before .before .before .before .before .before .before .before .before .before .before .before .before .before .before .before .before .before .before .before .args .bases .now) (c .before .before .before .before .before .before .before .before .before .before .before .before .conditions .result) 0) (c .before .before .before .before .before .before .before .before .before .before .before .before .before .before .before .before .before .before .before .before .before .before .before .args .own .event) (c .before .before .before .before .before .before .before .before .before .before .before .before .before .before .before .before .before .before .before .before .before .before .before .args .own .rest) (c .before .before .before .before .lay-side .last .1 .1 .1 .1 .1 .1 .1 .1 .1 .1 .1 .0) (c .before .before .before .before .lay-side .last .1 .1 .1 .1 .1 .1 .1 .1 .1 .1 .1 .1 .0) (c .before .before .before .before .before .before .before .before .before .before .before .before .conditions .result) (c .before .before .before .before .before .before .before .before .before .before .before .loop .i) (c .before .before .before .before .before .before .before .before .before .before .before .before .conditions .ensures) (c .before .before .before .before .before .before .before .before .before .side-at .result) (c .before .before .before .before .before .before .before .before .before .side-at .ensures) (c .before .before .before .before .before .before .before .shift-at .result) (c .before .before .before .before .before .before .before .shift-at .ensures ∙ ap (λ (k : ℕ). shiftOf k (sideAt (c .before .before .before .before .before .before .before .before .before .before .before .loop .i))) (c .before .before .before .before .before .before .before .before .number .ensures)) (c .before .before .before .before .lay-side .ensures)))
 
 returns : tie.Need-returns Inv-loop μ-loop
 returns c =
-    arcs-laid (c .before .before .before .before .before .before .before .before .before .before .before .before .before .args .table .now) (c .before .before .before .before .before .before .before .before .before .before .before .before .before .args .own .event) (c .before .before .before .before .before .before .before .before .before .before .before .before .before .args .own .rest) (c .before .before .before .before .before .before .before .before .before .before .before .before .before .pre .0 .taking .event) (c .before .before .before .before .before .before .before .before .before .before .before .before .before .pre .1 .0) (conditions-all (c .before .before .before .before .before .before .before .before .before .before .before .before .before .pre .0) (c .before .before .word .result) (c .before .before .word .ensures)) (getD (c .before .before .before .before .before .before .before .before .before .before .before .before .before .args .bases .now) (c .before .before .word .result) 0) (firsts-are (c .before .before .before .before .before .before .before .before .before .before .before .before .before .pre .0) (c .before .before .word .result) (c .before .before .word .ensures) (getD (c .before .before .before .before .before .before .before .before .before .before .before .before .before .args .bases .now) (c .before .before .word .result) 0) refl) (c .before .before .before .before .before .before .before .before .before .before .before .before .before .pre .0 .taking .few) (c .before .loop .starts) (c .before .loop .sizes) (c .before .before .word .result) (c .before .before .word .ensures) (c .before .loop .inv .1) (c .before .loop .inv .2) (λ i h. c .before .loop .inv .3 i (omega arith))
+    arcs-laid (c .before .before .before .before .before .before .before .before .before .before .before .before .before .args .table .now) (c .before .before .before .before .before .before .before .before .before .before .before .before .before .args .own .event) (c .before .before .before .before .before .before .before .before .before .before .before .before .before .args .own .rest) (c .before .before .before .before .before .before .before .before .before .before .before .before .before .pre .0 .taking .event) (c .before .before .before .before .before .before .before .before .before .before .before .before .before .pre .1 .0) (conditions-all (c .before .before .before .before .before .before .before .before .before .before .before .before .before .pre .0) (c .before .before .conditions .result) (c .before .before .conditions .ensures)) (getD (c .before .before .before .before .before .before .before .before .before .before .before .before .before .args .bases .now) (c .before .before .conditions .result) 0) (firsts-are (c .before .before .before .before .before .before .before .before .before .before .before .before .before .pre .0) (c .before .before .conditions .result) (c .before .before .conditions .ensures) (getD (c .before .before .before .before .before .before .before .before .before .before .before .before .before .args .bases .now) (c .before .before .conditions .result) 0) refl) (c .before .before .before .before .before .before .before .before .before .before .before .before .before .pre .0 .taking .few) (c .before .loop .starts) (c .before .loop .sizes) (c .before .before .conditions .result) (c .before .before .conditions .ensures) (c .before .loop .inv .1) (c .before .loop .inv .2) (λ i h. c .before .loop .inv .3 i (omega arith))
 
 pub lay-arcs-spec : {M : Type 1} → statement M
 lay-arcs-spec =

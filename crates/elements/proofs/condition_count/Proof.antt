@@ -8,7 +8,7 @@ use Rattle.elements.proofs.condition_count.Tie as tie
 
 returns : tie.Need-returns
 returns c =
-    c .number .ensures ∙ ap (λ (x : ℕ). getD (c .before .before .before .before .args .bases .now) x 0) (c .before .word .ensures)
+    c .number .ensures ∙ ap (λ (x : ℕ). getD (c .before .before .before .before .args .bases .now) x 0) (c .before .conditions .ensures)
 
 pub condition-count-spec : {M : Type 1} → statement M
 condition-count-spec =

@@ -9,11 +9,11 @@ use Rattle.export_places.proofs.link_at.Tie as tie
 
 returns : tie.Need-returns
 returns c =
-    rw (lt-ltb (c .before .before .before .before .before .before .args .spot .range) (4 * conditions (c .before .before .before .before .before .before .args .table .now)) (omega (arith, c .before .word .ensures, c .if1 .taken)))
+    rw (lt-ltb (c .before .before .before .before .before .before .args .spot .range) (4 * conditions (c .before .before .before .before .before .before .args .table .now)) (omega (arith, c .before .conditions .ensures, c .if1 .taken)))
 
 returns-2 : tie.Need-returns-2
 returns-2 c =
-    rw (le-ltb (c .before .before .before .before .before .before .args .spot .range) (4 * conditions (c .before .before .before .before .before .before .args .table .now)) (omega (arith, c .before .word .ensures, c .if1 .left)))
+    rw (le-ltb (c .before .before .before .before .before .before .args .spot .range) (4 * conditions (c .before .before .before .before .before .before .args .table .now)) (omega (arith, c .before .conditions .ensures, c .if1 .left)))
 
 pub link-at-spec : {M : Type 1} → statement M
 link-at-spec =

@@ -3,7 +3,7 @@ use Prim.Native.Nat.{_+_, _*_, _≤_}
 use native.Mathlib.Omega.{arith}
 use mathlib.Core.Path.{_∙_, sym}
 use Rattle.tally.specs.Having.{oneAt}
-use Rattle.sides.proofs.Ones.{one-in, none-in, one-tells}
+use Rattle.sides.proofs.Ones.{one-in, none-in, back-tells}
 use borrow.Author.Needs.{needs}
 use Rattle.sides.proofs.share_at.Statement.{statement}
 use Rattle.sides.proofs.share_at.Tie as tie
@@ -43,7 +43,7 @@ returns-2 c =
 
 returns-3 : tie.Need-returns-3
 returns-3 c =
-    c .shared3 .ensures ∙ rw (c .before .size-if3 .ensures, c .before .before .before .before .before .number .ensures, c .before .before .before .before .size-if .ensures, sym (c .before .before .before .is-persistent .ensures) ∙ c .before .before .if1 .left, one-tells)
+    c .shared3 .ensures ∙ rw (c .before .size-if4 .ensures, c .before .before .size-if3 .ensures, c .before .before .before .before .before .before .number .ensures, c .before .before .before .before .before .size-if .ensures, sym (c .before .before .before .before .is-persistent .ensures) ∙ c .before .before .before .if1 .left, back-tells (oneAt (c .before .before .before .before .before .before .before .before .before .before .before .before .before .before .before .args .before .now) (c .before .before .before .before .before .before .before .before .before .before .before .before .before .before .before .args .b)) (oneAt (c .before .before .before .before .before .before .before .before .before .before .before .before .before .before .before .args .after .now) (c .before .before .before .before .before .before .before .before .before .before .before .before .before .before .before .args .b)) (c .before .before .before .before .before .before .before .before .before .before .before .before .before .before .before .args .paper))
 
 pub share-at-spec : {M : Type 1} → statement M
 share-at-spec =
@@ -66,6 +66,7 @@ share-at-spec =
     returns
     (λ c κs. search needs)
     returns-2
+    (λ c κs. search needs)
     (λ c κs. search needs)
     (λ c κs. search needs)
     returns-3)

@@ -1,13 +1,12 @@
 -- `sides::side_of` meets its contract.
 use mathlib.Core.Path.{_∙_}
-use borrow.Author.Tests.{eq-eqb, ne-eqb}
 use borrow.Author.Needs.{needs}
 use Rattle.sides.proofs.side_of.Statement.{statement}
 use Rattle.sides.proofs.side_of.Tie as tie
 
 returns : tie.Need-returns
 returns c =
-    c .parted .ensures ∙ rw (c .before .before .before .enum-told2 .given .1, eq-eqb _ 1 (c .before .if1 .taken))
+    c .parted .ensures ∙ rw (c .before .before .enum-told2 .given .1, c .before .if1 .taken)
 
 returns-2 : tie.Need-returns-2
 returns-2 c =
@@ -23,7 +22,7 @@ returns-4 c =
 
 returns-5 : tie.Need-returns-5
 returns-5 c =
-    c .alone2 .ensures ∙ rw (c .before .before .before .enum-told2 .given .1, ne-eqb _ 1 (c .before .if1 .left))
+    c .alone2 .ensures ∙ rw (c .before .before .enum-told2 .given .1, c .before .if1 .left)
 
 returns-6 : tie.Need-returns-6
 returns-6 c =
