@@ -16,7 +16,7 @@ pub fn sizes_before<'a>(table: &'a [u8], events: usize, markers: &'a [u32], befo
     ensures { λ r. ⌜ Sums (size (netOf (now (table .entry)))) (netOf (now (table .entry)) .events) (now (before .exit)) ⌝ }
 {
     let mut total: u32 = 0;
-    let mut at = 4 + words::word(table, 0) as usize;
+    let mut at = table::offset(table, 0);
     let mut e: usize = 0;
     while e < events {
         before[e] = total;

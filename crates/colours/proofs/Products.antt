@@ -15,7 +15,7 @@ use Rattle.lists.specs.Lists.{any, index, keep}
 use Rattle.lists.proofs.Bools.{T-of, not-true, or-left, or-right, or-none}
 use Rattle.words.specs.Words.{wordAt, words}
 use Rattle.words.proofs.Laws.{words-next, words-end}
-use Rattle.records.specs.Records.{part, conditions}
+use Rattle.records.specs.Records.{flags}
 use Rattle.colours.specs.Colours.{flaggedIn, radicesIn, radices, product, capped}
 
 -- a count that is capped already serves in a capped product
@@ -122,5 +122,5 @@ unfolding product
 product-plain bytes markers l e = rw (none-kept (flaggedIn bytes) l (none-flagged bytes (not-true (any (eqb 1) bytes) e)))
 
 -- what is had by a table's bytes is had by the table
-pub product-read : (s markers l bytes : List ℕ) (n : ℕ) → n ≡ conditions s → bytes ≡ part s 4 n → {r : ℕ} → r ≡ capped (product (radicesIn bytes markers l)) → r ≡ capped (product (radices s markers l))
-product-read s markers l bytes n w f t = t ∙ ap (λ (x : List ℕ). capped (product (radicesIn x markers l))) (f ∙ ap (λ (k : ℕ). part s 4 k) w)
+pub product-read : (s markers l bytes : List ℕ) → bytes ≡ flags s → {r : ℕ} → r ≡ capped (product (radicesIn bytes markers l)) → r ≡ capped (product (radices s markers l))
+product-read s markers l bytes f t = t ∙ ap (λ (x : List ℕ). capped (product (radicesIn x markers l))) f

@@ -10,8 +10,9 @@ ghost use Rattle.colours.specs.Colours.{flaggedIn, flagged, radicesIn, r
 pub fn is_persistent(table: &[u8], b: usize) -> bool
     ensures { λ r. ⌜ r ≡ flagged (now (table .entry)) b ⌝ }
 {
-    if b < words::word(table, 0) as usize {
-        words::byte(table, 4 + b) == 1
+    let at = records::front(table);
+    if b < words::word(table, at) as usize {
+        words::byte(table, at + 4 + b) == 1
     } else {
         false
     }
@@ -71,8 +72,7 @@ fn colours_down<'a>(flags: &'a [u8], markers: &[u32], pre: &'a [u8]) -> u32
 pub fn colours<'a>(table: &'a [u8], markers: &[u32], pre: &'a [u8]) -> u32
     ensures { λ r. ⌜ r ≡ capped (product (radices (now (table .entry)) (now (markers .entry)) (words (now (pre .entry))))) ⌝ }
 {
-    let n = words::word(table, 0) as usize;
-    let flags = records::part_of(table, 4, n);
+    let flags = records::flags(table);
     if flags.len() < pre.len() {
         if some_persistent(flags) {
             return colours_down(flags, markers, pre);

@@ -9,7 +9,7 @@ use lib.Dec.{eqb, eqb→eq, ltb, ltb→lt}
 use lib.ListN.{length, getD, drop, length-take, List·getD-eq-default}
 use borrow.Author.Tests.{lt-ltb, eqb-true}
 use native.Mathlib.Decide.{decLe}
-use Rattle.records.specs.Records.{conditions, flags}
+use Rattle.records.specs.Records.{front, conditions, flags}
 use Rattle.colours.specs.Colours.{flagged}
 use Rattle.lists.specs.Lists.{index, sum, _∈_}
 use Rattle.lists.proofs.Bools.{is-false, not-true, T-of}
@@ -84,7 +84,7 @@ flagged-below s b t = go (decLe (conditions s) b)
     go : Dec (conditions s ≤ b) → b < conditions s
     go (no g) = omega arith
     go (yes g) =
-        let short : length (flags s) ≤ b = rw (length-take (conditions s) (drop 4 s)) (omega arith) in
+        let short : length (flags s) ≤ b = rw (length-take (conditions s) (drop (front s + 4) s)) (omega arith) in
         let z : getD (flags s) b 0 ≡ 0 = List·getD-eq-default (flags s) 0 short in
         let one : getD (flags s) b 0 ≡ 1 = eqb-true (getD (flags s) b 0) 1 t in
         absurd (omega arith)

@@ -18,7 +18,7 @@ pub fn ordinary_number(table: &[u8], b: TableCondition) -> Judged
         return r;
     };
     let wanted = b.0;
-    if words::word(table, 0) <= wanted {
+    if records::conditions(table) <= wanted {
         return refusal::refused(10, 0);
     }
     if colours::is_persistent(table, wanted as usize) {

@@ -32,7 +32,7 @@ use Rattle.colours.specs.Colours.{flagged}
 use Rattle.layout.proofs.Counts.{uses-at}
 use Rattle.layout.proofs.Limits.{unfolds-passed, unfolds-on, unfolds-judged}
 use Rattle.unfolding.proofs.Places.{kept-below}
-use Rattle.words.specs.Words.{wordAt}
+use Rattle.records.specs.Records.{conditions}
 use Rattle.unfolding.specs.Markers.{shown}
 use Rattle.conditions.specs.declared.ConditionOrigin.the-variants as show
 use Rattle.conditions.specs.Origins.{conditionAt, conditionJudged, told, toldIf, conditionOriginOf}
@@ -109,7 +109,7 @@ pub laid-refused : (s : List ℕ) (i : ℕ) {r : Judged} {x : Refusal} → r ≡
 unfolding conditionJudged
 laid-refused s i e t = told-refused s i (unfolds-passed s (need (ltb i (basic (netOf s) .conditions)) 10 0 (Fine i)) (netOf s .events) e t) t
 
-module _ (s ms us bases : List ℕ) (l : Laid s ms us bases) {r : Judged} (e : r ≡ unfoldingOf s (Fine (netOf s .events))) {k : ℕ} (t : r ≡ Fine k) (w : ℕ) (q : w ≡ wordAt s 0) where
+module _ (s ms us bases : List ℕ) (l : Laid s ms us bases) {r : Judged} (e : r ≡ unfoldingOf s (Fine (netOf s .events))) {k : ℕ} (t : r ≡ Fine k) (w : ℕ) (q : w ≡ conditions s) where
   on : (own : Judged) → unfoldingOf s own ≡ own
   on own = unfolds-on s own (netOf s .events) e t .0
 

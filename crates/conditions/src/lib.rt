@@ -22,7 +22,7 @@ pub enum ConditionOrigin {
 }
 
 // The condition that a number falls to, by the sums before each; the number of conditions where it is past the last.
-fn owner<'a>(table: &'a [u8], bases: &'a [u32], count: usize, i: u32) -> usize
+pub fn owner<'a>(table: &'a [u8], bases: &'a [u32], count: usize, i: u32) -> usize
     requires { ⌜ Sums (width (netOf (now table))) count (now bases) ⌝ }
     requires { ⌜ count ≤ 256 ⌝ }
     ensures { λ r. ⌜ Owns (width (netOf (now (table .entry)))) count i r ⌝ }
@@ -59,7 +59,7 @@ pub fn condition_origin(table: &[u8], i: UnfoldedCondition) -> ConditionOrigin
         return no_origin(r);
     };
     let wanted = i.0 as u32;
-    let count = words::word(table, 0) as usize;
+    let count = records::conditions(table) as usize;
     let b = owner(table, &bases, count, wanted);
     if count <= b {
         return no_origin(refusal::refused(10, 0));

@@ -23,7 +23,8 @@ use Rattle.model.proofs.Unfolded.{start-marks, event-marks}
 use Rattle.model.proofs.Counts.{marker-at, count-conditions, ordinary-from}
 use Rattle.refusal.specs.declared.Judged.{Judged}
 use Rattle.refusal.specs.declared.Judged.the-variants.{Fine, Refused}
-use Rattle.words.specs.Words.{wordAt, words}
+use Rattle.words.specs.Words.{words}
+use Rattle.records.specs.Records.{conditions}
 use Rattle.table.specs.Walk.{judgeOf, offsetOf}
 use Rattle.table.specs.Decoded.{netIf, netOf}
 use Rattle.table.proofs.Decoded.{conditions-are-all}
@@ -122,9 +123,9 @@ module _ (s us bases : List ℕ) (room : ℕ) (g : Roomy s us bases room) where
       let all = count-conditions (netOf s) in
       record { inside = omega (arith, base b h, g .fits); small = omega (arith, base b h, g .laid .few-conditions) }
 
-  -- the first two bytes tell the number of conditions
-  pub conditions-word : (w : ℕ) → w ≡ wordAt s 0 → w ≡ netOf s .conditions
-  conditions-word w e = e ∙ conditions-are-all s (netOf s .events) (judged s (g .laid .counted .marked .limits .some-condition))
+  -- what the table counts are the net's conditions
+  pub conditions-read : (w : ℕ) → w ≡ conditions s → w ≡ netOf s .conditions
+  conditions-read w e = e ∙ conditions-are-all s (netOf s .events) (judged s (g .laid .counted .marked .limits .some-condition))
 
   -- ---- the bytes that a condition has of its own
 

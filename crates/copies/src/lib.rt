@@ -61,7 +61,7 @@ fn write_first<'a>(
     requires { ⌜ Prepared (now table) (now users) (now bases) (now start) (now state) (length (now out)) ⌝ }
     ensures { λ _. ⌜ OwnRight (netOf (now (table .entry))) (marking (now (state .entry))) (now (out .entry)) (now (out .exit)) ⌝ }
 {
-    let n = words::word(table, 0) as usize;
+    let n = records::conditions(table) as usize;
     let mut b: usize = 0;
     while b < n {
         write_own(table, users, bases, start, state, b, out);
@@ -126,7 +126,7 @@ fn write_events<'a>(
     requires { ⌜ Tally (netOf (now table)) true 1 0 (now places) ⌝ }
     ensures { λ _. ⌜ EventsRight (netOf (now (table .entry))) (marking (now (seen .entry))) (now (out .entry)) (now (out .exit)) ⌝ }
 {
-    let mut at = 4 + words::word(table, 0) as usize;
+    let mut at = table::offset(table, 0);
     let mut e: usize = 0;
     while e < events {
         let list = tally::list_at(table, at, true);

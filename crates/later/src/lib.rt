@@ -56,7 +56,7 @@ pub fn own_markers<'a>(table: &'a [u8], events: usize, users: &'a [u32], firsts:
     ensures { λ r. ⌜ Later (netOf (now (table .entry))) (firsts .slots) (r .slots) ⌝ }
 {
     let mut later = firsts;
-    let mut at = 4 + words::word(table, 0) as usize;
+    let mut at = table::offset(table, 0);
     let mut e: usize = 0;
     while e < events {
         let pre = tally::list_at(table, at, false);

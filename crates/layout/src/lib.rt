@@ -54,7 +54,7 @@ fn sums<'a>(table: &'a [u8], markers: &'a [u32], users: &'a [u32], bases: &mut [
     requires { ⌜ length (now bases) ≡ 257 ⌝ }
     ensures { λ r. ⌜ Sums (widthAt (now (table .entry)) (now (markers .entry)) (now (users .entry))) (conditions (now (table .entry))) (now (bases .exit)) ⌝ }
 {
-    let n = words::word(table, 0) as usize;
+    let n = records::conditions(table) as usize;
     let mut total: u32 = 0;
     let mut b: usize = 0;
     while b < n {
@@ -72,7 +72,7 @@ fn events_judged<'a>(table: &'a [u8], events: usize, markers: &'a [u32], users: 
     ensures { λ r. ⌜ r ≡ eventsOf (netOf (now (table .entry))) ⌝ }
 {
     let mut total: usize = 0;
-    let mut at = 4 + words::word(table, 0) as usize;
+    let mut at = table::offset(table, 0);
     let mut e: usize = 0;
     while e < events {
         let pre = tally::list_at(table, at, false);
@@ -103,7 +103,7 @@ fn within_limits<'a>(
     let Judged::Fine(total) = t else {
         return t;
     };
-    if refusal::MOST_UNFOLDED < tally::number(bases, words::word(table, 0) as usize) {
+    if refusal::MOST_UNFOLDED < tally::number(bases, records::conditions(table) as usize) {
         return refusal::refused(14, 0);
     }
     if (refusal::MOST_UNFOLDED as usize) < total {

@@ -82,7 +82,7 @@ pub fn marker_places(table: &[u8], events: usize, firsts: Firsts, places: &mut [
     ensures { λ r. ⌜ Placed (netOf (now (table .entry))) (firsts .slots) (now (places .exit)) ⌝ }
 {
     begin_places(firsts, places);
-    let mut at = 4 + words::word(table, 0) as usize;
+    let mut at = table::offset(table, 0);
     let mut e: usize = 0;
     while e < events {
         count_event(firsts, e, tally::list_at(table, at, true), places);
@@ -136,7 +136,7 @@ fn event_numbers<'a>(
     requires { ⌜ length (now numbers) ≡ 256 ⌝ }
     ensures { λ r. ⌜ Numbered (now (table .entry)) (now (markers .entry)) (now (places .entry)) (netOf (now (table .entry)) .events) (now (numbers .exit)) ⌝ }
 {
-    let mut at = 4 + words::word(table, 0) as usize;
+    let mut at = table::offset(table, 0);
     let mut e: usize = 0;
     while e < events {
         let list = tally::list_at(table, at, false);

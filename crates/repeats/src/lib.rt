@@ -45,7 +45,7 @@ pub fn once_only<'a>(table: &'a [u8], events: usize, users: &'a [u32], once: &mu
     requires { ⌜ length (now once) ≡ 256 ⌝ }
     ensures { λ r. ⌜ Once (netOf (now (table .entry))) (now (once .exit)) ⌝ }
 {
-    let mut at = 4 + words::word(table, 0) as usize;
+    let mut at = table::offset(table, 0);
     let mut e: usize = 0;
     while e < events {
         let pre = tally::list_at(table, at, false);

@@ -189,7 +189,7 @@ fn lay<'a>(
     requires { ⌜ (length (now starts) ≡ 512) × (length (now sizes) ≡ 512) ⌝ }
     ensures { λ _. ⌜ ranged (now (starts .exit)) (now (sizes .exit)) (2 * conditions (now (table .entry))) ≡ spread (added (netOf (now (table .entry))) post (eventAt (netOf (now (table .entry))) (own .event) (own .rest))) (count 0 (conditions (now (table .entry)))) ⌝ }
 {
-    let n = words::word(table, 0) as usize;
+    let n = records::conditions(table) as usize;
     let mut b: usize = 0;
     while b < n {
         let g = segment_at(
@@ -247,7 +247,7 @@ pub fn ranges<'a>(
         starts,
         sizes,
     );
-    2 * words::word(table, 0) as usize
+    2 * records::conditions(table) as usize
 }
 
 // The sum of so many sizes.

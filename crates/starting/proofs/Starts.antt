@@ -15,7 +15,7 @@ use Rattle.refusal.specs.declared.Judged.{Judged}
 use Rattle.refusal.specs.declared.Judged.the-variants.{Fine, Refused}
 use Rattle.refusal.specs.Answer.{refusedAt, written}
 use Rattle.refusal.proofs.Chain.{fitting-room, fitting-short}
-use Rattle.words.specs.Words.{wordAt}
+use Rattle.records.specs.Records.{conditions}
 use Rattle.table.specs.Walk.{judgeOf}
 use Rattle.table.specs.Decoded.{netOf}
 use Rattle.table.proofs.Sound.{tabled}
@@ -53,7 +53,7 @@ laid-judged s e {m} t =
     j .1 ∙ ap Fine (events-are-all s (j .0) (j .1) ∙ sym (unfolds-on s (Fine 0) (netOf s .events) e t .1))
 
 -- the sum after the last condition counts the unfolded conditions
-pub count-is : (s ms us bases : List ℕ) (k : ℕ) → judgeOf s ≡ Fine k → Laid s ms us bases → (w : ℕ) → w ≡ wordAt s 0 → getD bases w 0 ≡ basic (netOf s) .conditions
+pub count-is : (s ms us bases : List ℕ) (k : ℕ) → judgeOf s ≡ Fine k → Laid s ms us bases → (w : ℕ) → w ≡ conditions s → getD bases w 0 ≡ basic (netOf s) .conditions
 unfolding basic
 count-is s ms us bases k j l w e = ap (λ (x : ℕ). getD bases x 0) e ∙ count-read s k j bases (l .sums) ∙ sym (count-conditions (netOf s))
 

@@ -43,7 +43,7 @@ pub fn unfolded_start(table: &[u8], out: &mut [u8]) -> Judged
     let Judged::Fine(events) = laid else {
         return laid;
     };
-    let count = tally::number(&bases, words::word(table, 0) as usize) as usize;
+    let count = tally::number(&bases, records::conditions(table) as usize) as usize;
     if out.len() < count {
         return refusal::refused(16, count);
     }

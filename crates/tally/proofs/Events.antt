@@ -15,7 +15,7 @@ use Rattle.event_rules.proofs.Fine.{EventFine}
 use Rattle.table.specs.Walk.{judgeOf, offsetOf}
 use Rattle.table.specs.Decoded.{netIf, netOf}
 use Rattle.table.specs.Tabled.{Tabled}
-use Rattle.table.proofs.Walk.{accepted, offset-none}
+use Rattle.table.proofs.Walk.{accepted}
 use Rattle.table.proofs.Decoded.{net-judged}
 use Rattle.table.proofs.Sound.{tabled}
 use Rattle.tally.specs.Having.{listOf, listPart}
@@ -70,7 +70,3 @@ module _ (s : List ℕ) (i at : ℕ) (h : i < netOf s .events) (q : at ≡ offse
 
   pub walk-has : (post : Bool) (b : ℕ) (l : List ℕ) {r : Bool} → l ≡ listPart post s at → r ≡ mem b (words l) → mem b (listOf (netOf s) post i) ≡ r
   walk-has post b l e t = sym (t ∙ rw (e, q, list-read s i h post))
-
--- and one that starts
-pub walk-first : (s : List ℕ) (w : ℕ) → w ≡ wordAt s 0 → 4 + w ≡ offsetOf s 0
-walk-first s w e = ap (λ (x : ℕ). 4 + x) e ∙ sym (offset-none s (4 + wordAt s 0))

@@ -83,7 +83,7 @@ pub fn tally(table: &[u8], upto: usize, post: bool, first: u32, counts: &mut [u3
     ensures { λ r. ⌜ Tally (netOf (now (table .entry))) post first upto (now (counts .exit)) ⌝ }
 {
     fill(counts, first);
-    let mut at = 4 + words::word(table, 0) as usize;
+    let mut at = table::offset(table, 0);
     let mut i: usize = 0;
     while i < upto {
         raise_low(counts, list_at(table, at, post));
@@ -98,7 +98,7 @@ pub fn nth(table: &[u8], upto: usize, post: bool, b: usize, wanted: usize) -> us
     ensures { λ r. ⌜ r ≡ getD (having (netOf (now (table .entry))) post b upto) wanted 0 ⌝ }
 {
     let mut left = wanted;
-    let mut at = 4 + words::word(table, 0) as usize;
+    let mut at = table::offset(table, 0);
     let mut i: usize = 0;
     while i < upto {
         if words::has(list_at(table, at, post), b) {
@@ -119,7 +119,7 @@ pub fn place(table: &[u8], upto: usize, post: bool, b: usize, e: usize) -> usize
     ensures { λ r. ⌜ r ≡ index (eqb e) (having (netOf (now (table .entry))) post b upto) ⌝ }
 {
     let mut found: usize = 0;
-    let mut at = 4 + words::word(table, 0) as usize;
+    let mut at = table::offset(table, 0);
     let mut i: usize = 0;
     while i < upto {
         if words::has(list_at(table, at, post), b) {

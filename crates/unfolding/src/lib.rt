@@ -54,7 +54,7 @@ pub fn owner<'a>(table: &'a [u8], events: usize, markers: &'a [u32], j: u32) -> 
     ensures { λ r. ⌜ Belongs (now (table .entry)) j r ⌝ }
 {
     let mut rest = j;
-    let mut at = 4 + words::word(table, 0) as usize;
+    let mut at = table::offset(table, 0);
     let mut e: usize = 0;
     while e < events {
         let weight = colours::colours(table, markers, tally::list_at(table, at, false));
@@ -75,7 +75,7 @@ pub fn colours_before<'a>(table: &'a [u8], events: usize, markers: &'a [u32], up
     ensures { λ r. ⌜ r ≡ sum (size (netOf (now (table .entry)))) upto ⌝ }
 {
     let mut total: usize = 0;
-    let mut at = 4 + words::word(table, 0) as usize;
+    let mut at = table::offset(table, 0);
     let mut e: usize = 0;
     while e < upto {
         total = total + colours::colours(table, markers, tally::list_at(table, at, false)) as usize;
@@ -96,7 +96,7 @@ pub fn condition_count(table: &[u8]) -> Judged
     let Judged::Fine(_) = r else {
         return r;
     };
-    let conditions = words::word(table, 0) as usize;
+    let conditions = records::conditions(table) as usize;
     Judged::Fine(tally::number(&bases, conditions) as usize)
 }
 

@@ -8,22 +8,20 @@ use Rattle.colours.proofs.colours.Tie as tie
 
 returns : tie.Need-returns
 returns c =
-    product-read (c .before .before .before .before .before .before .before .before .before .args .table .now) (c .before .before .before .before .before .before .before .before .before .args .markers .now) (words (c .before .before .before .before .before .before .before .before .before .args .pre .now)) (c .before .before .before .before .part-of .result .now) (c .before .before .before .before .before .word .result) (c .before .before .before .before .before .word .ensures) (c .before .before .before .before .part-of .ensures) (c .colours-down .ensures)
+    product-read (c .before .before .before .before .before .before .before .before .args .table .now) (c .before .before .before .before .before .before .before .before .args .markers .now) (words (c .before .before .before .before .before .before .before .before .args .pre .now)) (c .before .before .before .before .flags .result .now) (c .before .before .before .before .flags .ensures) (c .colours-down .ensures)
 
 returns-2 : tie.Need-returns-2
 returns-2 c =
-    product-read (c .before .before .before .before .before .before .before .before .args .table .now) (c .before .before .before .before .before .before .before .before .args .markers .now) (words (c .before .before .before .before .before .before .before .before .args .pre .now)) (c .before .before .before .part-of .result .now) (c .before .before .before .before .word .result) (c .before .before .before .before .word .ensures) (c .before .before .before .part-of .ensures) (product-plain (c .before .before .before .part-of .result .now) (c .before .before .before .before .before .before .before .before .args .markers .now) (words (c .before .before .before .before .before .before .before .before .args .pre .now)) (sym (c .before .some-persistent .ensures) ∙ c .if2 .left))
+    product-read (c .before .before .before .before .before .before .before .args .table .now) (c .before .before .before .before .before .before .before .args .markers .now) (words (c .before .before .before .before .before .before .before .args .pre .now)) (c .before .before .before .flags .result .now) (c .before .before .before .flags .ensures) (product-plain (c .before .before .before .flags .result .now) (c .before .before .before .before .before .before .before .args .markers .now) (words (c .before .before .before .before .before .before .before .args .pre .now)) (sym (c .before .some-persistent .ensures) ∙ c .if2 .left))
 
 returns-3 : tie.Need-returns-3
 returns-3 c =
-    product-read (c .before .before .before .before .before .before .before .args .table .now) (c .before .before .before .before .before .before .before .args .markers .now) (words (c .before .before .before .before .before .before .before .args .pre .now)) (c .before .before .part-of .result .now) (c .before .before .before .word .result) (c .before .before .before .word .ensures) (c .before .before .part-of .ensures) (c .colours-down2 .ensures)
+    product-read (c .before .before .before .before .before .before .args .table .now) (c .before .before .before .before .before .before .args .markers .now) (words (c .before .before .before .before .before .before .args .pre .now)) (c .before .before .flags .result .now) (c .before .before .flags .ensures) (c .colours-down2 .ensures)
 
 pub colours-spec : {M : Type 1} → statement M
 colours-spec =
     tie.close
     (tie.spec
-    (λ c κs. search needs)
-    (λ c. search needs)
     (λ c κs. search needs)
     (λ c κs. search needs)
     (λ c κs. search needs)

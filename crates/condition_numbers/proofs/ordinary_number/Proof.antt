@@ -20,7 +20,7 @@ returns c =
 returns-2 : tie.Need-returns-2
 returns-2 c =
     let j = unfolds-judged (c .before .before .before .before .before .before .before .before .before .before .before .before .before .args .table .now) (numbered (netOf (c .before .before .before .before .before .before .before .before .before .before .before .before .before .args .table .now)) (ordinary (c .before .before .before .before .before .before .before .before .before .before .before .before .before .args .b .0))) (netOf (c .before .before .before .before .before .before .before .before .before .before .before .before .before .args .table .now) .events) (c .before .before .before .before .before .before .before .before .lay-out .ensures .answer) (c .before .before .before .enum-told .given .1) in
-    c .refused .ensures ∙ ordinary-past (netOf (c .before .before .before .before .before .before .before .before .before .before .before .before .before .args .table .now)) (c .before .before .before .before .before .before .before .before .before .before .before .before .before .args .b .0) (omega (arith, conditions-are-all (c .before .before .before .before .before .before .before .before .before .before .before .before .before .args .table .now) (j .0) (j .1), c .before .before .word .ensures, c .before .if1 .taken)) ∙ sym (unfolds-on (c .before .before .before .before .before .before .before .before .before .before .before .before .before .args .table .now) (numbered (netOf (c .before .before .before .before .before .before .before .before .before .before .before .before .before .args .table .now)) (ordinary (c .before .before .before .before .before .before .before .before .before .before .before .before .before .args .b .0))) (netOf (c .before .before .before .before .before .before .before .before .before .before .before .before .before .args .table .now) .events) (c .before .before .before .before .before .before .before .before .lay-out .ensures .answer) (c .before .before .before .enum-told .given .1) .0)
+    c .refused .ensures ∙ ordinary-past (netOf (c .before .before .before .before .before .before .before .before .before .before .before .before .before .args .table .now)) (c .before .before .before .before .before .before .before .before .before .before .before .before .before .args .b .0) (omega (arith, conditions-are-all (c .before .before .before .before .before .before .before .before .before .before .before .before .before .args .table .now) (j .0) (j .1), c .before .before .conditions .ensures, c .before .if1 .taken)) ∙ sym (unfolds-on (c .before .before .before .before .before .before .before .before .before .before .before .before .before .args .table .now) (numbered (netOf (c .before .before .before .before .before .before .before .before .before .before .before .before .before .args .table .now)) (ordinary (c .before .before .before .before .before .before .before .before .before .before .before .before .before .args .b .0))) (netOf (c .before .before .before .before .before .before .before .before .before .before .before .before .before .args .table .now) .events) (c .before .before .before .before .before .before .before .before .lay-out .ensures .answer) (c .before .before .before .enum-told .given .1) .0)
 
 returns-3 : tie.Need-returns-3
 returns-3 c =
@@ -29,7 +29,7 @@ returns-3 c =
 returns-4 : tie.Need-returns-4
 returns-4 c =
     let j = unfolds-judged (c .before .before .before .before .before .before .before .before .before .before .before .before .before .before .before .before .args .table .now) (numbered (netOf (c .before .before .before .before .before .before .before .before .before .before .before .before .before .before .before .before .args .table .now)) (ordinary (c .before .before .before .before .before .before .before .before .before .before .before .before .before .before .before .before .args .b .0))) (netOf (c .before .before .before .before .before .before .before .before .before .before .before .before .before .before .before .before .args .table .now) .events) (c .before .before .before .before .before .before .before .before .before .before .before .lay-out .ensures .answer) (c .before .before .before .before .before .before .enum-told .given .1) in
-    let h : c .before .before .before .before .before .before .before .before .before .before .before .before .before .before .before .before .args .b .0 < netOf (c .before .before .before .before .before .before .before .before .before .before .before .before .before .before .before .before .args .table .now) .conditions = omega (arith, conditions-are-all (c .before .before .before .before .before .before .before .before .before .before .before .before .before .before .before .before .args .table .now) (j .0) (j .1), c .before .before .before .before .before .word .ensures, c .before .before .before .before .if1 .left) in
+    let h : c .before .before .before .before .before .before .before .before .before .before .before .before .before .before .before .before .args .b .0 < netOf (c .before .before .before .before .before .before .before .before .before .before .before .before .before .before .before .before .args .table .now) .conditions = omega (arith, conditions-are-all (c .before .before .before .before .before .before .before .before .before .before .before .before .before .before .before .before .args .table .now) (j .0) (j .1), c .before .before .before .before .before .conditions .ensures, c .before .before .before .before .if1 .left) in
     ap Fine (c .number .ensures ∙ (c .before .before .before .before .before .before .before .before .before .before .before .lay-out .ensures .laid (c .before .before .before .before .before .before .enum-told .given .0 .0) (c .before .before .before .before .before .before .enum-told .given .1)) .sums .at (c .before .before .before .before .before .before .before .before .before .before .before .before .before .before .before .before .args .b .0) (omega arith)) ∙ ordinary-there (netOf (c .before .before .before .before .before .before .before .before .before .before .before .before .before .before .before .before .args .table .now)) (c .before .before .before .before .before .before .before .before .before .before .before .before .before .before .before .before .args .b .0) h (sym ((c .before .before .before .before .before .before .before .before .before .before .before .lay-out .ensures .laid (c .before .before .before .before .before .before .enum-told .given .0 .0) (c .before .before .before .before .before .before .enum-told .given .1)) .counted .marked .flags (c .before .before .before .before .before .before .before .before .before .before .before .before .before .before .before .before .args .b .0)) ∙ sym (c .before .before .before .is-persistent .ensures) ∙ c .before .before .if2 .left) ∙ sym (unfolds-on (c .before .before .before .before .before .before .before .before .before .before .before .before .before .before .before .before .args .table .now) (numbered (netOf (c .before .before .before .before .before .before .before .before .before .before .before .before .before .before .before .before .args .table .now)) (ordinary (c .before .before .before .before .before .before .before .before .before .before .before .before .before .before .before .before .args .b .0))) (netOf (c .before .before .before .before .before .before .before .before .before .before .before .before .before .before .before .before .args .table .now) .events) (c .before .before .before .before .before .before .before .before .before .before .before .lay-out .ensures .answer) (c .before .before .before .before .before .before .enum-told .given .1) .0)
 
 pub ordinary-number-spec : {M : Type 1} → statement M

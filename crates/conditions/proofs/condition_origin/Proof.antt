@@ -14,19 +14,19 @@ returns c =
 
 owner-requires : tie.Need-owner-requires
 owner-requires c κs =
-    owner-sums (c .before .before .before .before .before .before .before .before .before .before .before .before .before .before .args .table .now) _ _ _ (c .before .before .before .before .before .before .before .before .before .lay-out .ensures .laid _ (c .before .before .before .before .r .given .1)) (c .before .before .before .before .before .before .before .before .before .lay-out .ensures .answer) (c .before .before .before .before .r .given .1) (c .before .word .result) (c .before .word .ensures)
+    owner-sums (c .before .before .before .before .before .before .before .before .before .before .before .before .before .before .args .table .now) _ _ _ (c .before .before .before .before .before .before .before .before .before .lay-out .ensures .laid _ (c .before .before .before .before .r .given .1)) (c .before .before .before .before .before .before .before .before .before .lay-out .ensures .answer) (c .before .before .before .before .r .given .1) (c .before .conditions .result) (c .before .conditions .ensures)
 
 returns-2 : tie.Need-returns-2
 returns-2 c =
-    c .no-origin2 .ensures ∙ number-past (c .before .before .before .before .before .before .before .before .before .before .before .before .before .before .before .before .before .before .args .table .now) _ _ _ (c .before .before .before .before .before .before .before .before .before .before .before .before .before .lay-out .ensures .laid _ (c .before .before .before .before .before .before .before .before .r .given .1)) (c .before .before .before .before .before .before .before .before .before .before .before .before .before .lay-out .ensures .answer) (c .before .before .before .before .before .before .before .before .r .given .1) (c .before .before .before .before .before .word .result) (c .before .before .before .before .before .word .ensures) (c .before .before .before .before .before .before .before .before .before .before .before .before .before .before .before .before .before .before .args .i .0) (c .before .before .before .owner .result) (c .before .before .before .owner .ensures) (omega (arith, c .before .before .if1 .taken)) (c .before .refused .result) (c .before .refused .ensures)
+    c .no-origin2 .ensures ∙ number-past (c .before .before .before .before .before .before .before .before .before .before .before .before .before .before .before .before .before .before .args .table .now) _ _ _ (c .before .before .before .before .before .before .before .before .before .before .before .before .before .lay-out .ensures .laid _ (c .before .before .before .before .before .before .before .before .r .given .1)) (c .before .before .before .before .before .before .before .before .before .before .before .before .before .lay-out .ensures .answer) (c .before .before .before .before .before .before .before .before .r .given .1) (c .before .before .before .before .before .conditions .result) (c .before .before .before .before .before .conditions .ensures) (c .before .before .before .before .before .before .before .before .before .before .before .before .before .before .before .before .before .before .args .i .0) (c .before .before .before .owner .result) (c .before .before .before .owner .ensures) (omega (arith, c .before .before .if1 .taken)) (c .before .refused .result) (c .before .refused .ensures)
 
 sub-rest : tie.Need-sub-rest
 sub-rest c =
-    base-low (c .before .before .before .before .before .before .before .before .before .before .before .before .before .before .before .before .before .before .before .before .args .table .now) _ _ _ (c .before .before .before .before .before .before .before .before .before .before .before .before .before .before .before .lay-out .ensures .laid _ (c .before .before .before .before .before .before .before .before .before .before .r .given .1)) (c .before .before .before .before .before .before .before .before .before .before .before .before .before .before .before .lay-out .ensures .answer) (c .before .before .before .before .before .before .before .before .before .before .r .given .1) (c .before .before .before .before .before .before .before .word .result) (c .before .before .before .before .before .before .before .word .ensures) (c .before .before .before .before .before .before .before .before .before .before .before .before .before .before .before .before .before .before .before .before .args .i .0) (c .before .before .before .before .before .owner .result) (c .before .before .before .before .before .owner .ensures) (c .before .before .before .before .if1 .left) (c .number .result) (c .number .ensures)
+    base-low (c .before .before .before .before .before .before .before .before .before .before .before .before .before .before .before .before .before .before .before .before .args .table .now) _ _ _ (c .before .before .before .before .before .before .before .before .before .before .before .before .before .before .before .lay-out .ensures .laid _ (c .before .before .before .before .before .before .before .before .before .before .r .given .1)) (c .before .before .before .before .before .before .before .before .before .before .before .before .before .before .before .lay-out .ensures .answer) (c .before .before .before .before .before .before .before .before .before .before .r .given .1) (c .before .before .before .before .before .before .before .conditions .result) (c .before .before .before .before .before .before .before .conditions .ensures) (c .before .before .before .before .before .before .before .before .before .before .before .before .before .before .before .before .before .before .before .before .args .i .0) (c .before .before .before .before .before .owner .result) (c .before .before .before .before .before .owner .ensures) (c .before .before .before .before .if1 .left) (c .number .result) (c .number .ensures)
 
 div-marker-at : tie.Need-div-marker-at
 div-marker-at c =
-    omega (arith, user-some (c .before .before .before .before .before .before .before .before .before .before .before .before .before .before .before .before .before .before .before .before .before .before .args .table .now) _ _ _ (c .before .before .before .before .before .before .before .before .before .before .before .before .before .before .before .before .before .lay-out .ensures .laid _ (c .before .before .before .before .before .before .before .before .before .before .before .before .r .given .1)) (c .before .before .before .before .before .before .before .before .before .before .before .before .before .before .before .before .before .lay-out .ensures .answer) (c .before .before .before .before .before .before .before .before .before .before .before .before .r .given .1) (c .before .before .before .before .before .before .before .before .before .word .result) (c .before .before .before .before .before .before .before .before .before .word .ensures) (c .before .before .before .before .before .before .before .before .before .before .before .before .before .before .before .before .before .before .before .before .before .before .args .i .0) (c .before .before .before .before .before .before .before .owner .result) (c .before .before .before .before .before .before .before .owner .ensures) (c .before .before .before .before .before .before .if1 .left) (c .before .before .before .before .before .is-persistent .result) (c .before .before .before .before .before .is-persistent .ensures) (c .before .before .before .before .if2 .taken) (c .before .before .number .result) (c .before .before .number .ensures) (c .number2 .result) (c .number2 .ensures))
+    omega (arith, user-some (c .before .before .before .before .before .before .before .before .before .before .before .before .before .before .before .before .before .before .before .before .before .before .args .table .now) _ _ _ (c .before .before .before .before .before .before .before .before .before .before .before .before .before .before .before .before .before .lay-out .ensures .laid _ (c .before .before .before .before .before .before .before .before .before .before .before .before .r .given .1)) (c .before .before .before .before .before .before .before .before .before .before .before .before .before .before .before .before .before .lay-out .ensures .answer) (c .before .before .before .before .before .before .before .before .before .before .before .before .r .given .1) (c .before .before .before .before .before .before .before .before .before .conditions .result) (c .before .before .before .before .before .before .before .before .before .conditions .ensures) (c .before .before .before .before .before .before .before .before .before .before .before .before .before .before .before .before .before .before .before .before .before .before .args .i .0) (c .before .before .before .before .before .before .before .owner .result) (c .before .before .before .before .before .before .before .owner .ensures) (c .before .before .before .before .before .before .if1 .left) (c .before .before .before .before .before .is-persistent .result) (c .before .before .before .before .before .is-persistent .ensures) (c .before .before .before .before .if2 .taken) (c .before .before .number .result) (c .before .before .number .ensures) (c .number2 .result) (c .number2 .ensures))
 
 cast-marker-at : tie.Need-cast-marker-at
 cast-marker-at c =
@@ -34,39 +34,39 @@ cast-marker-at c =
 
 marker-at-requires : tie.Need-marker-at-requires
 marker-at-requires c κs =
-    (events-is (c .before .before .before .before .before .before .before .before .before .before .before .before .before .before .before .before .before .before .before .before .before .before .args .table .now) _ _ _ (c .before .before .before .before .before .before .before .before .before .before .before .before .before .before .before .before .before .lay-out .ensures .laid _ (c .before .before .before .before .before .before .before .before .before .before .before .before .r .given .1)) (c .before .before .before .before .before .before .before .before .before .before .before .before .before .before .before .before .before .lay-out .ensures .answer) (c .before .before .before .before .before .before .before .before .before .before .before .before .r .given .1) (c .before .before .before .before .before .before .before .before .before .word .result) (c .before .before .before .before .before .before .before .before .before .word .ensures), (few-events (c .before .before .before .before .before .before .before .before .before .before .before .before .before .before .before .before .before .before .before .before .before .before .args .table .now) _ _ _ (c .before .before .before .before .before .before .before .before .before .before .before .before .before .before .before .before .before .lay-out .ensures .laid _ (c .before .before .before .before .before .before .before .before .before .before .before .before .r .given .1)) (c .before .before .before .before .before .before .before .before .before .before .before .before .before .before .before .before .before .lay-out .ensures .answer) (c .before .before .before .before .before .before .before .before .before .before .before .before .r .given .1) (c .before .before .before .before .before .before .before .before .before .word .result) (c .before .before .before .before .before .before .before .before .before .word .ensures), marker-low (c .before .before .before .before .before .before .before .before .before .before .before .before .before .before .before .before .before .before .before .before .before .before .args .table .now) _ _ _ (c .before .before .before .before .before .before .before .before .before .before .before .before .before .before .before .before .before .lay-out .ensures .laid _ (c .before .before .before .before .before .before .before .before .before .before .before .before .r .given .1)) (c .before .before .before .before .before .before .before .before .before .before .before .before .before .before .before .before .before .lay-out .ensures .answer) (c .before .before .before .before .before .before .before .before .before .before .before .before .r .given .1) (c .before .before .before .before .before .before .before .before .before .word .result) (c .before .before .before .before .before .before .before .before .before .word .ensures) (c .before .before .before .before .before .before .before .before .before .before .before .before .before .before .before .before .before .before .before .before .before .before .args .i .0) (c .before .before .before .before .before .before .before .owner .result) (c .before .before .before .before .before .before .before .owner .ensures) (c .before .before .before .before .before .before .if1 .left) (c .before .before .before .before .before .is-persistent .result) (c .before .before .before .before .before .is-persistent .ensures) (c .before .before .before .before .if2 .taken) (c .before .before .number .result) (c .before .before .number .ensures) (c .number2 .result) (c .number2 .ensures)))
+    (events-is (c .before .before .before .before .before .before .before .before .before .before .before .before .before .before .before .before .before .before .before .before .before .before .args .table .now) _ _ _ (c .before .before .before .before .before .before .before .before .before .before .before .before .before .before .before .before .before .lay-out .ensures .laid _ (c .before .before .before .before .before .before .before .before .before .before .before .before .r .given .1)) (c .before .before .before .before .before .before .before .before .before .before .before .before .before .before .before .before .before .lay-out .ensures .answer) (c .before .before .before .before .before .before .before .before .before .before .before .before .r .given .1) (c .before .before .before .before .before .before .before .before .before .conditions .result) (c .before .before .before .before .before .before .before .before .before .conditions .ensures), (few-events (c .before .before .before .before .before .before .before .before .before .before .before .before .before .before .before .before .before .before .before .before .before .before .args .table .now) _ _ _ (c .before .before .before .before .before .before .before .before .before .before .before .before .before .before .before .before .before .lay-out .ensures .laid _ (c .before .before .before .before .before .before .before .before .before .before .before .before .r .given .1)) (c .before .before .before .before .before .before .before .before .before .before .before .before .before .before .before .before .before .lay-out .ensures .answer) (c .before .before .before .before .before .before .before .before .before .before .before .before .r .given .1) (c .before .before .before .before .before .before .before .before .before .conditions .result) (c .before .before .before .before .before .before .before .before .before .conditions .ensures), marker-low (c .before .before .before .before .before .before .before .before .before .before .before .before .before .before .before .before .before .before .before .before .before .before .args .table .now) _ _ _ (c .before .before .before .before .before .before .before .before .before .before .before .before .before .before .before .before .before .lay-out .ensures .laid _ (c .before .before .before .before .before .before .before .before .before .before .before .before .r .given .1)) (c .before .before .before .before .before .before .before .before .before .before .before .before .before .before .before .before .before .lay-out .ensures .answer) (c .before .before .before .before .before .before .before .before .before .before .before .before .r .given .1) (c .before .before .before .before .before .before .before .before .before .conditions .result) (c .before .before .before .before .before .before .before .before .before .conditions .ensures) (c .before .before .before .before .before .before .before .before .before .before .before .before .before .before .before .before .before .before .before .before .before .before .args .i .0) (c .before .before .before .before .before .before .before .owner .result) (c .before .before .before .before .before .before .before .owner .ensures) (c .before .before .before .before .before .before .if1 .left) (c .before .before .before .before .before .is-persistent .result) (c .before .before .before .before .before .is-persistent .ensures) (c .before .before .before .before .if2 .taken) (c .before .before .number .result) (c .before .before .number .ensures) (c .number2 .result) (c .number2 .ensures)))
 
 rem-nth : tie.Need-rem-nth
 rem-nth c =
-    omega (arith, user-some (c .before .before .before .before .before .before .before .before .before .before .before .before .before .before .before .before .before .before .before .before .before .before .before .args .table .now) _ _ _ (c .before .before .before .before .before .before .before .before .before .before .before .before .before .before .before .before .before .before .lay-out .ensures .laid _ (c .before .before .before .before .before .before .before .before .before .before .before .before .before .r .given .1)) (c .before .before .before .before .before .before .before .before .before .before .before .before .before .before .before .before .before .before .lay-out .ensures .answer) (c .before .before .before .before .before .before .before .before .before .before .before .before .before .r .given .1) (c .before .before .before .before .before .before .before .before .before .before .word .result) (c .before .before .before .before .before .before .before .before .before .before .word .ensures) (c .before .before .before .before .before .before .before .before .before .before .before .before .before .before .before .before .before .before .before .before .before .before .before .args .i .0) (c .before .before .before .before .before .before .before .before .owner .result) (c .before .before .before .before .before .before .before .before .owner .ensures) (c .before .before .before .before .before .before .before .if1 .left) (c .before .before .before .before .before .before .is-persistent .result) (c .before .before .before .before .before .before .is-persistent .ensures) (c .before .before .before .before .before .if2 .taken) (c .before .before .before .number .result) (c .before .before .before .number .ensures) (c .before .number2 .result) (c .before .number2 .ensures))
+    omega (arith, user-some (c .before .before .before .before .before .before .before .before .before .before .before .before .before .before .before .before .before .before .before .before .before .before .before .args .table .now) _ _ _ (c .before .before .before .before .before .before .before .before .before .before .before .before .before .before .before .before .before .before .lay-out .ensures .laid _ (c .before .before .before .before .before .before .before .before .before .before .before .before .before .r .given .1)) (c .before .before .before .before .before .before .before .before .before .before .before .before .before .before .before .before .before .before .lay-out .ensures .answer) (c .before .before .before .before .before .before .before .before .before .before .before .before .before .r .given .1) (c .before .before .before .before .before .before .before .before .before .before .conditions .result) (c .before .before .before .before .before .before .before .before .before .before .conditions .ensures) (c .before .before .before .before .before .before .before .before .before .before .before .before .before .before .before .before .before .before .before .before .before .before .before .args .i .0) (c .before .before .before .before .before .before .before .before .owner .result) (c .before .before .before .before .before .before .before .before .owner .ensures) (c .before .before .before .before .before .before .before .if1 .left) (c .before .before .before .before .before .before .is-persistent .result) (c .before .before .before .before .before .before .is-persistent .ensures) (c .before .before .before .before .before .if2 .taken) (c .before .before .before .number .result) (c .before .before .before .number .ensures) (c .before .number2 .result) (c .before .number2 .ensures))
 
 cast-nth : tie.Need-cast-nth
 cast-nth c =
-    omega (arith, mod-lt (c .before .before .before .before .before .before .before .before .before .before .before .before .before .before .before .before .before .before .before .before .before .before .before .args .i .0 - c .before .before .before .number .result) (user-some (c .before .before .before .before .before .before .before .before .before .before .before .before .before .before .before .before .before .before .before .before .before .before .before .args .table .now) _ _ _ (c .before .before .before .before .before .before .before .before .before .before .before .before .before .before .before .before .before .before .lay-out .ensures .laid _ (c .before .before .before .before .before .before .before .before .before .before .before .before .before .r .given .1)) (c .before .before .before .before .before .before .before .before .before .before .before .before .before .before .before .before .before .before .lay-out .ensures .answer) (c .before .before .before .before .before .before .before .before .before .before .before .before .before .r .given .1) (c .before .before .before .before .before .before .before .before .before .before .word .result) (c .before .before .before .before .before .before .before .before .before .before .word .ensures) (c .before .before .before .before .before .before .before .before .before .before .before .before .before .before .before .before .before .before .before .before .before .before .before .args .i .0) (c .before .before .before .before .before .before .before .before .owner .result) (c .before .before .before .before .before .before .before .before .owner .ensures) (c .before .before .before .before .before .before .before .if1 .left) (c .before .before .before .before .before .before .is-persistent .result) (c .before .before .before .before .before .before .is-persistent .ensures) (c .before .before .before .before .before .if2 .taken) (c .before .before .before .number .result) (c .before .before .before .number .ensures) (c .before .number2 .result) (c .before .number2 .ensures)))
+    omega (arith, mod-lt (c .before .before .before .before .before .before .before .before .before .before .before .before .before .before .before .before .before .before .before .before .before .before .before .args .i .0 - c .before .before .before .number .result) (user-some (c .before .before .before .before .before .before .before .before .before .before .before .before .before .before .before .before .before .before .before .before .before .before .before .args .table .now) _ _ _ (c .before .before .before .before .before .before .before .before .before .before .before .before .before .before .before .before .before .before .lay-out .ensures .laid _ (c .before .before .before .before .before .before .before .before .before .before .before .before .before .r .given .1)) (c .before .before .before .before .before .before .before .before .before .before .before .before .before .before .before .before .before .before .lay-out .ensures .answer) (c .before .before .before .before .before .before .before .before .before .before .before .before .before .r .given .1) (c .before .before .before .before .before .before .before .before .before .before .conditions .result) (c .before .before .before .before .before .before .before .before .before .before .conditions .ensures) (c .before .before .before .before .before .before .before .before .before .before .before .before .before .before .before .before .before .before .before .before .before .before .before .args .i .0) (c .before .before .before .before .before .before .before .before .owner .result) (c .before .before .before .before .before .before .before .before .owner .ensures) (c .before .before .before .before .before .before .before .if1 .left) (c .before .before .before .before .before .before .is-persistent .result) (c .before .before .before .before .before .before .is-persistent .ensures) (c .before .before .before .before .before .if2 .taken) (c .before .before .before .number .result) (c .before .before .before .number .ensures) (c .before .number2 .result) (c .before .number2 .ensures)))
 
 nth-requires : tie.Need-nth-requires
 nth-requires c κs =
-    omega (arith, events-is (c .before .before .before .before .before .before .before .before .before .before .before .before .before .before .before .before .before .before .before .before .before .before .before .args .table .now) _ _ _ (c .before .before .before .before .before .before .before .before .before .before .before .before .before .before .before .before .before .before .lay-out .ensures .laid _ (c .before .before .before .before .before .before .before .before .before .before .before .before .before .r .given .1)) (c .before .before .before .before .before .before .before .before .before .before .before .before .before .before .before .before .before .before .lay-out .ensures .answer) (c .before .before .before .before .before .before .before .before .before .before .before .before .before .r .given .1) (c .before .before .before .before .before .before .before .before .before .before .word .result) (c .before .before .before .before .before .before .before .before .before .before .word .ensures))
+    omega (arith, events-is (c .before .before .before .before .before .before .before .before .before .before .before .before .before .before .before .before .before .before .before .before .before .before .before .args .table .now) _ _ _ (c .before .before .before .before .before .before .before .before .before .before .before .before .before .before .before .before .before .before .lay-out .ensures .laid _ (c .before .before .before .before .before .before .before .before .before .before .before .before .before .r .given .1)) (c .before .before .before .before .before .before .before .before .before .before .before .before .before .before .before .before .before .before .lay-out .ensures .answer) (c .before .before .before .before .before .before .before .before .before .before .before .before .before .r .given .1) (c .before .before .before .before .before .before .before .before .before .before .conditions .result) (c .before .before .before .before .before .before .before .before .before .before .conditions .ensures))
 
 cast-t33 : tie.Need-cast-t33
 cast-t33 c =
-    omega (arith, few-conditions (c .before .before .before .before .before .before .before .before .before .before .before .before .before .before .before .before .before .before .before .before .before .before .before .before .args .table .now) _ _ _ (c .before .before .before .before .before .before .before .before .before .before .before .before .before .before .before .before .before .before .before .lay-out .ensures .laid _ (c .before .before .before .before .before .before .before .before .before .before .before .before .before .before .r .given .1)) (c .before .before .before .before .before .before .before .before .before .before .before .before .before .before .before .before .before .before .before .lay-out .ensures .answer) (c .before .before .before .before .before .before .before .before .before .before .before .before .before .before .r .given .1) (c .before .before .before .before .before .before .before .before .before .before .before .word .result) (c .before .before .before .before .before .before .before .before .before .before .before .word .ensures))
+    omega (arith, few-conditions (c .before .before .before .before .before .before .before .before .before .before .before .before .before .before .before .before .before .before .before .before .before .before .before .before .args .table .now) _ _ _ (c .before .before .before .before .before .before .before .before .before .before .before .before .before .before .before .before .before .before .before .lay-out .ensures .laid _ (c .before .before .before .before .before .before .before .before .before .before .before .before .before .before .r .given .1)) (c .before .before .before .before .before .before .before .before .before .before .before .before .before .before .before .before .before .before .before .lay-out .ensures .answer) (c .before .before .before .before .before .before .before .before .before .before .before .before .before .before .r .given .1) (c .before .before .before .before .before .before .before .before .before .before .before .conditions .result) (c .before .before .before .before .before .before .before .before .before .before .before .conditions .ensures))
 
 cast-t35 : tie.Need-cast-t35
 cast-t35 c =
-    omega (arith, user-small (c .before .before .before .before .before .before .before .before .before .before .before .before .before .before .before .before .before .before .before .before .before .before .before .before .args .table .now) _ _ _ (c .before .before .before .before .before .before .before .before .before .before .before .before .before .before .before .before .before .before .before .lay-out .ensures .laid _ (c .before .before .before .before .before .before .before .before .before .before .before .before .before .before .r .given .1)) (c .before .before .before .before .before .before .before .before .before .before .before .before .before .before .before .before .before .before .before .lay-out .ensures .answer) (c .before .before .before .before .before .before .before .before .before .before .before .before .before .before .r .given .1) (c .before .before .before .before .before .before .before .before .before .before .before .word .result) (c .before .before .before .before .before .before .before .before .before .before .before .word .ensures) (c .before .before .before .before .before .before .before .before .before .before .before .before .before .before .before .before .before .before .before .before .before .before .before .before .args .i .0) (c .before .before .before .before .before .before .before .before .before .owner .result) (c .before .before .before .before .before .before .before .before .before .owner .ensures) (c .before .before .before .before .before .before .before .before .if1 .left) (c .nth .result) _ (c .nth .ensures))
+    omega (arith, user-small (c .before .before .before .before .before .before .before .before .before .before .before .before .before .before .before .before .before .before .before .before .before .before .before .before .args .table .now) _ _ _ (c .before .before .before .before .before .before .before .before .before .before .before .before .before .before .before .before .before .before .before .lay-out .ensures .laid _ (c .before .before .before .before .before .before .before .before .before .before .before .before .before .before .r .given .1)) (c .before .before .before .before .before .before .before .before .before .before .before .before .before .before .before .before .before .before .before .lay-out .ensures .answer) (c .before .before .before .before .before .before .before .before .before .before .before .before .before .before .r .given .1) (c .before .before .before .before .before .before .before .before .before .before .before .conditions .result) (c .before .before .before .before .before .before .before .before .before .before .before .conditions .ensures) (c .before .before .before .before .before .before .before .before .before .before .before .before .before .before .before .before .before .before .before .before .before .before .before .before .args .i .0) (c .before .before .before .before .before .before .before .before .before .owner .result) (c .before .before .before .before .before .before .before .before .before .owner .ensures) (c .before .before .before .before .before .before .before .before .if1 .left) (c .nth .result) _ (c .nth .ensures))
 
 returns-3 : tie.Need-returns-3
 returns-3 c =
-    number-copy (c .before .before .before .before .before .before .before .before .before .before .before .before .before .before .before .before .before .before .before .before .before .before .before .before .args .table .now) _ _ _ (c .before .before .before .before .before .before .before .before .before .before .before .before .before .before .before .before .before .before .before .lay-out .ensures .laid _ (c .before .before .before .before .before .before .before .before .before .before .before .before .before .before .r .given .1)) (c .before .before .before .before .before .before .before .before .before .before .before .before .before .before .before .before .before .before .before .lay-out .ensures .answer) (c .before .before .before .before .before .before .before .before .before .before .before .before .before .before .r .given .1) (c .before .before .before .before .before .before .before .before .before .before .before .word .result) (c .before .before .before .before .before .before .before .before .before .before .before .word .ensures) (c .before .before .before .before .before .before .before .before .before .before .before .before .before .before .before .before .before .before .before .before .before .before .before .before .args .i .0) (c .before .before .before .before .before .before .before .before .before .owner .result) (c .before .before .before .before .before .before .before .before .before .owner .ensures) (c .before .before .before .before .before .before .before .before .if1 .left) (c .before .before .before .before .before .before .before .is-persistent .result) (c .before .before .before .before .before .before .before .is-persistent .ensures) (c .before .before .before .before .before .before .if2 .taken) (c .before .before .before .before .number .result) (c .before .before .before .before .number .ensures) (c .before .before .number2 .result) (c .before .before .number2 .ensures) (c .before .marker-at .result) (c .before .marker-at .ensures) (c .nth .result) (c .nth .ensures)
+    number-copy (c .before .before .before .before .before .before .before .before .before .before .before .before .before .before .before .before .before .before .before .before .before .before .before .before .args .table .now) _ _ _ (c .before .before .before .before .before .before .before .before .before .before .before .before .before .before .before .before .before .before .before .lay-out .ensures .laid _ (c .before .before .before .before .before .before .before .before .before .before .before .before .before .before .r .given .1)) (c .before .before .before .before .before .before .before .before .before .before .before .before .before .before .before .before .before .before .before .lay-out .ensures .answer) (c .before .before .before .before .before .before .before .before .before .before .before .before .before .before .r .given .1) (c .before .before .before .before .before .before .before .before .before .before .before .conditions .result) (c .before .before .before .before .before .before .before .before .before .before .before .conditions .ensures) (c .before .before .before .before .before .before .before .before .before .before .before .before .before .before .before .before .before .before .before .before .before .before .before .before .args .i .0) (c .before .before .before .before .before .before .before .before .before .owner .result) (c .before .before .before .before .before .before .before .before .before .owner .ensures) (c .before .before .before .before .before .before .before .before .if1 .left) (c .before .before .before .before .before .before .before .is-persistent .result) (c .before .before .before .before .before .before .before .is-persistent .ensures) (c .before .before .before .before .before .before .if2 .taken) (c .before .before .before .before .number .result) (c .before .before .before .before .number .ensures) (c .before .before .number2 .result) (c .before .before .number2 .ensures) (c .before .marker-at .result) (c .before .marker-at .ensures) (c .nth .result) (c .nth .ensures)
 
 cast-t21 : tie.Need-cast-t21
 cast-t21 c =
-    omega (arith, few-conditions (c .before .before .before .before .before .before .before .before .before .before .before .before .before .before .before .before .before .before .args .table .now) _ _ _ (c .before .before .before .before .before .before .before .before .before .before .before .before .before .lay-out .ensures .laid _ (c .before .before .before .before .before .before .before .before .r .given .1)) (c .before .before .before .before .before .before .before .before .before .before .before .before .before .lay-out .ensures .answer) (c .before .before .before .before .before .before .before .before .r .given .1) (c .before .before .before .before .before .word .result) (c .before .before .before .before .before .word .ensures))
+    omega (arith, few-conditions (c .before .before .before .before .before .before .before .before .before .before .before .before .before .before .before .before .before .before .args .table .now) _ _ _ (c .before .before .before .before .before .before .before .before .before .before .before .before .before .lay-out .ensures .laid _ (c .before .before .before .before .before .before .before .before .r .given .1)) (c .before .before .before .before .before .before .before .before .before .before .before .before .before .lay-out .ensures .answer) (c .before .before .before .before .before .before .before .before .r .given .1) (c .before .before .before .before .before .conditions .result) (c .before .before .before .before .before .conditions .ensures))
 
 returns-4 : tie.Need-returns-4
 returns-4 c =
-    number-ordinary (c .before .before .before .before .before .before .before .before .before .before .before .before .before .before .before .before .before .before .args .table .now) _ _ _ (c .before .before .before .before .before .before .before .before .before .before .before .before .before .lay-out .ensures .laid _ (c .before .before .before .before .before .before .before .before .r .given .1)) (c .before .before .before .before .before .before .before .before .before .before .before .before .before .lay-out .ensures .answer) (c .before .before .before .before .before .before .before .before .r .given .1) (c .before .before .before .before .before .word .result) (c .before .before .before .before .before .word .ensures) (c .before .before .before .before .before .before .before .before .before .before .before .before .before .before .before .before .before .before .args .i .0) (c .before .before .before .owner .result) (c .before .before .before .owner .ensures) (c .before .before .if1 .left) (c .before .is-persistent .result) (c .before .is-persistent .ensures) (c .if2 .left)
+    number-ordinary (c .before .before .before .before .before .before .before .before .before .before .before .before .before .before .before .before .before .before .args .table .now) _ _ _ (c .before .before .before .before .before .before .before .before .before .before .before .before .before .lay-out .ensures .laid _ (c .before .before .before .before .before .before .before .before .r .given .1)) (c .before .before .before .before .before .before .before .before .before .before .before .before .before .lay-out .ensures .answer) (c .before .before .before .before .before .before .before .before .r .given .1) (c .before .before .before .before .before .conditions .result) (c .before .before .before .before .before .conditions .ensures) (c .before .before .before .before .before .before .before .before .before .before .before .before .before .before .before .before .before .before .args .i .0) (c .before .before .before .owner .result) (c .before .before .before .owner .ensures) (c .before .before .if1 .left) (c .before .is-persistent .result) (c .before .is-persistent .ensures) (c .if2 .left)
 
 pub condition-origin-spec : {M : Type 1} → statement M
 condition-origin-spec =

@@ -6,7 +6,7 @@ use lib.ListN.{length}
 use Rattle.model.specs.Lent.{marking}
 use Rattle.table.specs.Decoded.{netOf}
 use Rattle.copies.specs.Writing.{Right, ownBelow}
-use Rattle.copies.proofs.Steps.{right-none, own-end, conditions-word, own-fits, own-next}
+use Rattle.copies.proofs.Steps.{right-none, own-end, conditions-read, own-fits, own-next}
 use borrow.Author.Needs.{needs}
 use Rattle.copies.proofs.write_first.Statement.{statement}
 use Rattle.copies.proofs.write_first.Tie as tie
@@ -24,7 +24,7 @@ loop-holds c =
 
 write-own-requires : tie.Need-write-own-requires Inv-loop μ-loop
 write-own-requires c κs =
-    own-fits (c .before .before .before .before .before .before .before .before .before .before .args .table .now) (c .before .before .before .before .before .before .before .before .before .before .args .users .now) (c .before .before .before .before .before .before .before .before .before .before .args .bases .now) (length (c .before .before .before .before .before .before .before .before .before .before .args .out .now)) (c .before .before .before .before .before .before .before .before .before .before .pre .roomy) (c .before .before .loop .b) (omega (arith, conditions-word (c .before .before .before .before .before .before .before .before .before .before .args .table .now) (c .before .before .before .before .before .before .before .before .before .before .args .users .now) (c .before .before .before .before .before .before .before .before .before .before .args .bases .now) (length (c .before .before .before .before .before .before .before .before .before .before .args .out .now)) (c .before .before .before .before .before .before .before .before .before .before .pre .roomy) (c .before .before .before .word .result) (c .before .before .before .word .ensures))) (c .before .before .loop .out) (c .before .before .loop .inv .1 (λ _. false) .same)
+    own-fits (c .before .before .before .before .before .before .before .before .before .before .args .table .now) (c .before .before .before .before .before .before .before .before .before .before .args .users .now) (c .before .before .before .before .before .before .before .before .before .before .args .bases .now) (length (c .before .before .before .before .before .before .before .before .before .before .args .out .now)) (c .before .before .before .before .before .before .before .before .before .before .pre .roomy) (c .before .before .loop .b) (omega (arith, conditions-read (c .before .before .before .before .before .before .before .before .before .before .args .table .now) (c .before .before .before .before .before .before .before .before .before .before .args .users .now) (c .before .before .before .before .before .before .before .before .before .before .args .bases .now) (length (c .before .before .before .before .before .before .before .before .before .before .args .out .now)) (c .before .before .before .before .before .before .before .before .before .before .pre .roomy) (c .before .before .before .conditions .result) (c .before .before .before .conditions .ensures))) (c .before .before .loop .out) (c .before .before .loop .inv .1 (λ _. false) .same)
 
 loop-less : tie.Need-loop-less Inv-loop μ-loop
 loop-less c =
@@ -32,7 +32,7 @@ loop-less c =
 
 loop-again : tie.Need-loop-again Inv-loop μ-loop
 loop-again c =
-    (omega arith, λ seen. own-next (c .before .before .before .before .before .before .before .before .before .before .before .before .before .args .table .now) (c .before .before .before .before .before .before .before .before .before .before .before .before .before .args .users .now) (c .before .before .before .before .before .before .before .before .before .before .before .before .before .args .bases .now) (length (c .before .before .before .before .before .before .before .before .before .before .before .before .before .args .out .now)) (c .before .before .before .before .before .before .before .before .before .before .before .before .before .pre .roomy) (c .before .before .before .before .before .before .before .before .before .before .before .before .before .args .start .now) (c .before .before .before .before .before .before .before .before .before .before .before .before .before .args .state .now) (c .before .before .before .before .before .before .before .before .before .before .before .before .before .pre .started) (c .before .before .before .before .before .before .before .before .before .before .before .before .before .pre .lent) seen (c .before .before .before .before .before .loop .b) (omega (arith, conditions-word (c .before .before .before .before .before .before .before .before .before .before .before .before .before .args .table .now) (c .before .before .before .before .before .before .before .before .before .before .before .before .before .args .users .now) (c .before .before .before .before .before .before .before .before .before .before .before .before .before .args .bases .now) (length (c .before .before .before .before .before .before .before .before .before .before .before .before .before .args .out .now)) (c .before .before .before .before .before .before .before .before .before .before .before .before .before .pre .roomy) (c .before .before .before .before .before .before .word .result) (c .before .before .before .before .before .before .word .ensures))) (c .before .before .before .before .before .before .before .before .before .before .before .before .before .args .out .now) (c .before .before .before .before .before .loop .out) _ (c .before .before .before .before .before .loop .inv .1 seen) (c .before .before .write-own .ensures))
+    (omega arith, λ seen. own-next (c .before .before .before .before .before .before .before .before .before .before .before .before .before .args .table .now) (c .before .before .before .before .before .before .before .before .before .before .before .before .before .args .users .now) (c .before .before .before .before .before .before .before .before .before .before .before .before .before .args .bases .now) (length (c .before .before .before .before .before .before .before .before .before .before .before .before .before .args .out .now)) (c .before .before .before .before .before .before .before .before .before .before .before .before .before .pre .roomy) (c .before .before .before .before .before .before .before .before .before .before .before .before .before .args .start .now) (c .before .before .before .before .before .before .before .before .before .before .before .before .before .args .state .now) (c .before .before .before .before .before .before .before .before .before .before .before .before .before .pre .started) (c .before .before .before .before .before .before .before .before .before .before .before .before .before .pre .lent) seen (c .before .before .before .before .before .loop .b) (omega (arith, conditions-read (c .before .before .before .before .before .before .before .before .before .before .before .before .before .args .table .now) (c .before .before .before .before .before .before .before .before .before .before .before .before .before .args .users .now) (c .before .before .before .before .before .before .before .before .before .before .before .before .before .args .bases .now) (length (c .before .before .before .before .before .before .before .before .before .before .before .before .before .args .out .now)) (c .before .before .before .before .before .before .before .before .before .before .before .before .before .pre .roomy) (c .before .before .before .before .before .before .conditions .result) (c .before .before .before .before .before .before .conditions .ensures))) (c .before .before .before .before .before .before .before .before .before .before .before .before .before .args .out .now) (c .before .before .before .before .before .loop .out) _ (c .before .before .before .before .before .loop .inv .1 seen) (c .before .before .write-own .ensures))
 
 same-length : tie.Need-same-length Inv-loop μ-loop
 same-length c =
@@ -40,7 +40,7 @@ same-length c =
 
 returns : tie.Need-returns Inv-loop μ-loop
 returns c =
-    λ seen. own-end (netOf (c .before .before .before .before .before .before .before .before .before .args .table .now)) (marking (c .before .before .before .before .before .before .before .before .before .args .state .now)) seen (c .before .loop .b) (omega (arith, conditions-word (c .before .before .before .before .before .before .before .before .before .args .table .now) (c .before .before .before .before .before .before .before .before .before .args .users .now) (c .before .before .before .before .before .before .before .before .before .args .bases .now) (length (c .before .before .before .before .before .before .before .before .before .args .out .now)) (c .before .before .before .before .before .before .before .before .before .pre .roomy) (c .before .before .word .result) (c .before .before .word .ensures))) (c .before .before .before .before .before .before .before .before .before .args .out .now) (c .before .loop .out) (c .before .loop .inv .1 seen)
+    λ seen. own-end (netOf (c .before .before .before .before .before .before .before .before .before .args .table .now)) (marking (c .before .before .before .before .before .before .before .before .before .args .state .now)) seen (c .before .loop .b) (omega (arith, conditions-read (c .before .before .before .before .before .before .before .before .before .args .table .now) (c .before .before .before .before .before .before .before .before .before .args .users .now) (c .before .before .before .before .before .before .before .before .before .args .bases .now) (length (c .before .before .before .before .before .before .before .before .before .args .out .now)) (c .before .before .before .before .before .before .before .before .before .pre .roomy) (c .before .before .conditions .result) (c .before .before .conditions .ensures))) (c .before .before .before .before .before .before .before .before .before .args .out .now) (c .before .loop .out) (c .before .loop .inv .1 seen)
 
 pub write-first-spec : {M : Type 1} → statement M
 write-first-spec =

@@ -6,7 +6,7 @@ use mathlib.Core.Path.{_≡_}
 use lib.ListN.{length, length-map}
 use Rattle.table.specs.Walk.{offsetOf}
 use Rattle.table.specs.Decoded.{netOf}
-use Rattle.tally.proofs.Events.{walk-first, walk-next, walk-within}
+use Rattle.tally.proofs.Events.{walk-next, walk-within}
 use Rattle.later.proofs.Upto.{Upto, own-none, post-inside, own-event, own-done}
 use Rattle.later.proofs.own_markers.Statement.{statement}
 use Rattle.later.proofs.own_markers.Tie as tie
@@ -22,7 +22,7 @@ abbrev μ-loop : tie.MeasureT-loop
 loop-holds : tie.Need-loop-holds Inv-loop μ-loop
 loop-holds c =
     let long : length (c .before .before .before .args .firsts .slots) ≡ 256 = simp length-map at (c .before .before .before .good .1 .1 .1 .0 .1 .1 .0 .1 .0 .1) in
-    (omega arith, walk-first (c .before .before .before .args .table .now) (c .word .result) (c .word .ensures), own-none (netOf (c .before .before .before .args .table .now)) (c .before .before .before .args .firsts .slots) long)
+    (omega arith, c .offset .ensures, own-none (netOf (c .before .before .before .args .table .now)) (c .before .before .before .args .firsts .slots) long)
 
 cast-own-all : tie.Need-cast-own-all Inv-loop μ-loop
 cast-own-all c =
@@ -32,18 +32,18 @@ own-all-requires : tie.Need-own-all-requires Inv-loop μ-loop
 own-all-requires c κs =
     post-inside (c .before .before .before .before .before .before .before .args .table .now) (c .before .before .before .before .before .before .before .args .users .now) (c .before .before .before .before .before .before .before .pre .1) (c .before .before .before .loop .e) (omega arith) (c .before .before .before .loop .at) (c .before .before .before .loop .inv .1) (c .list-at2 .result .now) (c .list-at2 .ensures)
 
-add-at-2 : tie.Need-add-at-2 Inv-loop μ-loop
-add-at-2 c =
+add-at : tie.Need-add-at Inv-loop μ-loop
+add-at c =
     omega (arith, walk-within (c .before .before .before .before .before .before .before .before .args .table .now) (c .before .before .before .before .loop .e) (c .before .before .before .before .loop .at) (omega arith) (c .before .before .before .before .loop .inv .1))
 
-add-at-3 : tie.Need-add-at-3 Inv-loop μ-loop
-add-at-3 c =
-    omega (arith, walk-within (c .before .before .before .before .before .before .before .before .before .args .table .now) (c .before .before .before .before .before .loop .e) (c .before .before .before .before .before .loop .at) (omega arith) (c .before .before .before .before .before .loop .inv .1), c .word2 .ensures)
+add-at-2 : tie.Need-add-at-2 Inv-loop μ-loop
+add-at-2 c =
+    omega (arith, walk-within (c .before .before .before .before .before .before .before .before .before .args .table .now) (c .before .before .before .before .before .loop .e) (c .before .before .before .before .before .loop .at) (omega arith) (c .before .before .before .before .before .loop .inv .1), c .word .ensures)
 
 loop-again : tie.Need-loop-again Inv-loop μ-loop
 loop-again c =
     let s = c .before .before .before .before .before .before .before .before .before .args .table .now in
-    let on = walk-next s (c .before .before .before .before .before .loop .e) (c .before .before .before .before .before .loop .at) (omega arith) (c .before .before .before .before .before .loop .inv .1) (c .word2 .result) (c .word2 .ensures) in
+    let on = walk-next s (c .before .before .before .before .before .loop .e) (c .before .before .before .before .before .loop .at) (omega arith) (c .before .before .before .before .before .loop .inv .1) (c .word .result) (c .word .ensures) in
     let u = own-event s (c .before .before .before .before .before .before .before .before .before .args .users .now) (c .before .before .before .before .before .before .before .before .before .pre .1) (c .before .before .before .before .before .loop .e) (omega arith) (c .before .before .before .before .before .loop .at) (c .before .before .before .before .before .loop .inv .1) (c .before .before .before .list-at .result .now) (c .before .before .before .list-at .ensures) (c .before .before .list-at2 .result .now) (c .before .before .list-at2 .ensures) (c .before .before .before .before .before .before .before .before .before .args .firsts .slots) (c .before .before .before .before .before .loop .later .slots) (c .before .own-all .result .slots) (c .before .before .before .before .before .loop .inv .2) (c .before .own-all .ensures) in
     (omega arith, on, u)
 
@@ -58,17 +58,15 @@ own-markers-spec =
     Inv-loop
     μ-loop
     (λ c κs. search needs)
-    (λ c. search needs)
-    (λ c. search needs)
     loop-holds
     (λ c κs. search needs)
     (λ c κs. search needs)
     cast-own-all
     own-all-requires
-    add-at-2
+    add-at
     (λ c κs. search needs)
     (λ c. search needs)
-    add-at-3
+    add-at-2
     (λ c. search needs)
     (λ c. search needs)
     loop-again

@@ -13,7 +13,7 @@ use Rattle.model.specs.Across.{lowestIdle}
 use Rattle.model.specs.Numbering.{size}
 use Rattle.table.specs.Walk.{offsetOf}
 use Rattle.table.specs.Decoded.{netOf}
-use Rattle.tally.proofs.Events.{walk-first, walk-next, walk-within}
+use Rattle.tally.proofs.Events.{walk-next, walk-within}
 use Rattle.layout.proofs.events_judged.Statement.{statement}
 use Rattle.layout.proofs.events_judged.Tie as tie
 
@@ -26,7 +26,7 @@ abbrev μ-loop : tie.MeasureT-loop
 
 loop-holds : tie.Need-loop-holds Inv-loop μ-loop
 loop-holds c =
-    (omega arith, walk-first (c .before .before .before .before .args .table .now) (c .word .result) (c .word .ensures), omega arith, refl, idle-all (netOf (c .before .before .before .before .args .table .now)) (c .before .before .before .before .args .events) (c .before .before .before .before .pre .1))
+    (omega arith, c .offset .ensures, omega arith, refl, idle-all (netOf (c .before .before .before .before .args .table .now)) (c .before .before .before .before .args .events) (c .before .before .before .before .pre .1))
 
 returns : tie.Need-returns Inv-loop μ-loop
 unfolding eventsOf
@@ -34,18 +34,18 @@ returns c =
     let i = idle-walk (c .before .before .before .before .before .before .before .before .before .before .before .args .table .now) (c .before .before .before .before .before .before .before .before .before .before .before .args .markers .now) (c .before .before .before .before .before .before .before .before .before .before .before .args .users .now) (c .before .before .before .before .before .before .before .before .before .before .before .pre .0) (c .before .before .before .before .before .before .loop .e) (c .before .before .before .before .before .before .loop .at) (omega arith) (c .before .before .before .before .before .before .loop .inv .1) (c .before .before .before .before .list-at .result .now) (c .before .before .before .before .list-at .ensures) (c .before .before .before .list-at2 .result .now) (c .before .before .before .list-at2 .ensures) (c .before .before .idle .ensures) ∙ c .before .if1 .taken in
     c .refused .ensures ∙ sym (ap (λ (o : Option ℕ). idleOr o (Fine (cappedCount (netOf (c .before .before .before .before .before .before .before .before .before .before .before .args .table .now))))) (c .before .before .before .before .before .before .loop .inv .4 ∙ idle-here (netOf (c .before .before .before .before .before .before .before .before .before .before .before .args .table .now)) (c .before .before .before .before .before .before .loop .e) (c .before .before .before .before .before .before .before .before .before .before .before .args .events) (c .before .before .before .before .before .loop-test .taken) i))
 
-add-at-2 : tie.Need-add-at-2 Inv-loop μ-loop
-add-at-2 c =
+add-at : tie.Need-add-at Inv-loop μ-loop
+add-at c =
     omega (arith, walk-within (c .before .before .before .before .before .before .before .before .before .before .before .args .table .now) (c .before .before .before .before .before .before .loop .e) (c .before .before .before .before .before .before .loop .at) (omega arith) (c .before .before .before .before .before .before .loop .inv .1))
 
-add-at-3 : tie.Need-add-at-3 Inv-loop μ-loop
-add-at-3 c =
-    omega (arith, walk-within (c .before .before .before .before .before .before .before .before .before .before .before .before .args .table .now) (c .before .before .before .before .before .before .before .loop .e) (c .before .before .before .before .before .before .before .loop .at) (omega arith) (c .before .before .before .before .before .before .before .loop .inv .1), c .word2 .ensures)
+add-at-2 : tie.Need-add-at-2 Inv-loop μ-loop
+add-at-2 c =
+    omega (arith, walk-within (c .before .before .before .before .before .before .before .before .before .before .before .before .args .table .now) (c .before .before .before .before .before .before .before .loop .e) (c .before .before .before .before .before .before .before .loop .at) (omega arith) (c .before .before .before .before .before .before .before .loop .inv .1), c .word .ensures)
 
 loop-again : tie.Need-loop-again Inv-loop μ-loop
 loop-again c =
     let s = c .before .before .before .before .before .before .before .before .before .before .before .before .args .table .now in
-    let on = walk-next s (c .before .before .before .before .before .before .before .loop .e) (c .before .before .before .before .before .before .before .loop .at) (omega arith) (c .before .before .before .before .before .before .before .loop .inv .1) (c .word2 .result) (c .word2 .ensures) in
+    let on = walk-next s (c .before .before .before .before .before .before .before .loop .e) (c .before .before .before .before .before .before .before .loop .at) (omega arith) (c .before .before .before .before .before .before .before .loop .inv .1) (c .word .result) (c .word .ensures) in
     let i = idle-walk s (c .before .before .before .before .before .before .before .before .before .before .before .before .args .markers .now) (c .before .before .before .before .before .before .before .before .before .before .before .before .args .users .now) (c .before .before .before .before .before .before .before .before .before .before .before .before .pre .0) (c .before .before .before .before .before .before .before .loop .e) (c .before .before .before .before .before .before .before .loop .at) (omega arith) (c .before .before .before .before .before .before .before .loop .inv .1) (c .before .before .before .before .before .list-at .result .now) (c .before .before .before .before .before .list-at .ensures) (c .before .before .before .before .list-at2 .result .now) (c .before .before .before .before .list-at2 .ensures) (c .before .before .before .idle .ensures) ∙ c .before .before .if1 .left in
     let k = colours-walk s (c .before .before .before .before .before .before .before .before .before .before .before .before .args .markers .now) (c .before .before .before .before .before .before .before .before .before .before .before .before .pre .0 .marked) (c .before .before .before .before .before .before .before .loop .e) (c .before .before .before .before .before .before .before .loop .at) (omega arith) (c .before .before .before .before .before .before .before .loop .inv .1) (c .before .before .before .before .before .list-at .result .now) (c .before .before .before .before .before .list-at .ensures) (c .before .colours .ensures) in
     (omega arith, on, omega arith, ap (λ (x : ℕ). x + c .before .colours .result) (c .before .before .before .before .before .before .before .loop .inv .3) ∙ sum-next (λ e. capped (size (netOf s) e)) (c .before .before .before .before .before .before .before .loop .e) (c .before .colours .result) k, c .before .before .before .before .before .before .before .loop .inv .4 ∙ idle-later (netOf s) (c .before .before .before .before .before .before .before .loop .e) (c .before .before .before .before .before .before .before .before .before .before .before .before .args .events) (c .before .before .before .before .before .before .loop-test .taken) i)
@@ -65,8 +65,6 @@ events-judged-spec =
     Inv-loop
     μ-loop
     (λ c κs. search needs)
-    (λ c. search needs)
-    (λ c. search needs)
     loop-holds
     (λ c κs. search needs)
     (λ c κs. search needs)
@@ -76,10 +74,10 @@ events-judged-spec =
     (λ c κs. search needs)
     (λ c. search needs)
     (λ c. search needs)
-    add-at-2
+    add-at
     (λ c κs. search needs)
     (λ c. search needs)
-    add-at-3
+    add-at-2
     (λ c. search needs)
     (λ c. search needs)
     loop-again

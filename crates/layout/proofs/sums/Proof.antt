@@ -35,10 +35,10 @@ same-length c =
 returns : tie.Need-returns Inv-loop μ-loop
 returns c =
     let f = widthAt (c .before .before .before .before .before .before .before .args .table .now) (c .before .before .before .before .before .before .before .args .markers .now) (c .before .before .before .before .before .before .before .args .users .now) in
-    let z : c .before .loop .b ≡ c .before .before .word .result = omega arith in
-    let t : c .before .loop .total ≡ sum f (c .before .before .word .result) = c .before .loop .inv .3 ∙ ap (λ (k : ℕ). sum f k) z in
-    let q : (k : ℕ) → k < c .before .before .word .result → getD (c .before .loop .bases) k 0 ≡ sum f k = λ k h. c .before .loop .inv .4 k (omega arith) in
-    record { size = simp length-set (c .before .loop .inv .1); at = λ b h. set-more (λ k. sum f k) (c .before .loop .bases) (c .before .before .word .result) (c .before .loop .total) (omega arith) t q b (omega (arith, c .before .before .word .ensures)) }
+    let z : c .before .loop .b ≡ c .before .before .conditions .result = omega arith in
+    let t : c .before .loop .total ≡ sum f (c .before .before .conditions .result) = c .before .loop .inv .3 ∙ ap (λ (k : ℕ). sum f k) z in
+    let q : (k : ℕ) → k < c .before .before .conditions .result → getD (c .before .loop .bases) k 0 ≡ sum f k = λ k h. c .before .loop .inv .4 k (omega arith) in
+    record { size = simp length-set (c .before .loop .inv .1); at = λ b h. set-more (λ k. sum f k) (c .before .loop .bases) (c .before .before .conditions .result) (c .before .loop .total) (omega arith) t q b (omega (arith, c .before .before .conditions .ensures)) }
 
 pub sums-spec : {M : Type 1} → statement M
 sums-spec =

@@ -32,7 +32,7 @@ returns-2 c =
     let j = c .before .before .before .before .before .before .before .before .before .before .before .before .pre .0 in
     let k = c .before .before .before .before .before .before .before .before .before .before .before .before .args .events in
     let t = all-touch s (Fine (netOf s .events)) k j (c .before .before .before .before .before .before .before .events-judged .ensures) (c .before .before .before .before .before .t .given .1) in
-    let n : c .before .before .number .result ≡ conditionCount (netOf s) = c .before .before .number .ensures ∙ ap (λ (x : ℕ). getD (c .before .before .before .before .before .before .before .before .before .before .before .before .args .bases .now) x 0) (c .before .before .before .word .ensures) ∙ count-read s k j (c .before .before .before .before .before .before .before .before .before .before .before .before .args .bases .now) (c .before .before .before .before .before .before .before .before .before .before .before .before .pre .1 .1) in
+    let n : c .before .before .number .result ≡ conditionCount (netOf s) = c .before .before .number .ensures ∙ ap (λ (x : ℕ). getD (c .before .before .before .before .before .before .before .before .before .before .before .before .args .bases .now) x 0) (c .before .before .before .conditions .ensures) ∙ count-read s k j (c .before .before .before .before .before .before .before .before .before .before .before .before .args .bases .now) (c .before .before .before .before .before .before .before .before .before .before .before .before .pre .1 .1) in
     record { answer = c .refused .ensures ∙ conditions-over s (Fine (netOf s .events)) k j (t .0) (omega (arith, n)); laid = λ k e. never-both (sym e ∙ c .refused .ensures) }
 
 returns-3 : tie.Need-returns-3
@@ -41,7 +41,7 @@ returns-3 c =
     let j = c .before .before .before .before .before .before .before .before .before .before .before .before .before .pre .0 in
     let k = c .before .before .before .before .before .before .before .before .before .before .before .before .before .args .events in
     let t = all-touch s (Fine (netOf s .events)) k j (c .before .before .before .before .before .before .before .before .events-judged .ensures) (c .before .before .before .before .before .before .t .given .1) in
-    let n : c .before .before .before .number .result ≡ conditionCount (netOf s) = c .before .before .before .number .ensures ∙ ap (λ (x : ℕ). getD (c .before .before .before .before .before .before .before .before .before .before .before .before .before .args .bases .now) x 0) (c .before .before .before .before .word .ensures) ∙ count-read s k j (c .before .before .before .before .before .before .before .before .before .before .before .before .before .args .bases .now) (c .before .before .before .before .before .before .before .before .before .before .before .before .before .pre .1 .1) in
+    let n : c .before .before .before .number .result ≡ conditionCount (netOf s) = c .before .before .before .number .ensures ∙ ap (λ (x : ℕ). getD (c .before .before .before .before .before .before .before .before .before .before .before .before .before .args .bases .now) x 0) (c .before .before .before .before .conditions .ensures) ∙ count-read s k j (c .before .before .before .before .before .before .before .before .before .before .before .before .before .args .bases .now) (c .before .before .before .before .before .before .before .before .before .before .before .before .before .pre .1 .1) in
     record { answer = c .refused2 .ensures ∙ events-over s (Fine (netOf s .events)) k j (t .0) (omega (arith, n)) (omega (arith, t .1)); laid = λ k e. never-both (sym e ∙ c .refused2 .ensures) }
 
 returns-4 : tie.Need-returns-4
@@ -50,7 +50,7 @@ returns-4 c =
     let j = c .before .before .before .before .before .before .before .before .before .before .before .before .pre .0 in
     let k = c .before .before .before .before .before .before .before .before .before .before .before .before .args .events in
     let t = all-touch s (Fine (netOf s .events)) k j (c .before .before .before .before .before .before .before .events-judged .ensures) (c .before .before .before .before .before .t .given .1) in
-    let n : c .before .before .number .result ≡ conditionCount (netOf s) = c .before .before .number .ensures ∙ ap (λ (x : ℕ). getD (c .before .before .before .before .before .before .before .before .before .before .before .before .args .bases .now) x 0) (c .before .before .before .word .ensures) ∙ count-read s k j (c .before .before .before .before .before .before .before .before .before .before .before .before .args .bases .now) (c .before .before .before .before .before .before .before .before .before .before .before .before .pre .1 .1) in
+    let n : c .before .before .number .result ≡ conditionCount (netOf s) = c .before .before .number .ensures ∙ ap (λ (x : ℕ). getD (c .before .before .before .before .before .before .before .before .before .before .before .before .args .bases .now) x 0) (c .before .before .before .conditions .ensures) ∙ count-read s k j (c .before .before .before .before .before .before .before .before .before .before .before .before .args .bases .now) (c .before .before .before .before .before .before .before .before .before .before .before .before .pre .1 .1) in
     let low : cappedCount (netOf s) ≤ mostUnfolded = omega (arith, t .1) in
     let few : eventCount (netOf s) ≤ mostUnfolded = omega (arith, count-whole (netOf s) low) in
     let some : conditionCount (netOf s) ≤ mostUnfolded = omega (arith, n) in

@@ -8,7 +8,7 @@ use Rattle.lists.specs.Lists.{sum}
 use Rattle.model.specs.Numbering.{size}
 use Rattle.table.specs.Walk.{offsetOf}
 use Rattle.table.specs.Decoded.{netOf}
-use Rattle.tally.proofs.Events.{walk-first, walk-next, walk-within}
+use Rattle.tally.proofs.Events.{walk-next, walk-within}
 use Rattle.tally.proofs.Lists.{set-more}
 use Rattle.places.specs.Numbers.{joinedAll, Numbered}
 use Rattle.places.proofs.Joined.{event-fits, joining, event-number}
@@ -25,7 +25,7 @@ abbrev μ-loop : tie.MeasureT-loop
 
 loop-holds : tie.Need-loop-holds Inv-loop μ-loop
 loop-holds c =
-    (omega arith, walk-first (c .before .before .before .before .before .before .args .table .now) (c .word .result) (c .word .ensures), record { long = c .before .before .before .before .before .before .pre .1; each = λ k h. absurd (omega arith) })
+    (omega arith, c .offset .ensures, record { long = c .before .before .before .before .before .before .pre .1; each = λ k h. absurd (omega arith) })
 
 joined-all-requires : tie.Need-joined-all-requires Inv-loop μ-loop
 joined-all-requires c κs =
@@ -36,20 +36,20 @@ add-numbers c =
     let v = event-number (c .before .before .before .before .before .before .before .before .before .before .before .args .table .now) (c .before .before .before .before .before .before .before .before .before .before .before .args .markers .now) (c .before .before .before .before .before .before .before .before .before .before .before .args .events) (c .before .before .before .before .before .before .before .before .before .before .before .args .before .now) (c .before .before .before .before .before .before .before .before .before .before .before .args .places .now) (c .before .before .before .before .before .before .before .before .before .before .before .pre .0) (c .before .before .before .before .loop .e) (omega (arith, c .before .before .before .before .before .before .before .before .before .before .before .pre .0 .within .all)) (c .before .before .before .before .loop .at) (c .before .before .before .before .loop .inv .1) _ (c .before .before .list-at .ensures) (c .before .joined-all .result) (c .number .result) (c .before .joined-all .ensures) (c .number .ensures) in
     omega (arith, v, event-fits (c .before .before .before .before .before .before .before .before .before .before .before .args .table .now) (c .before .before .before .before .before .before .before .before .before .before .before .args .markers .now) (c .before .before .before .before .before .before .before .before .before .before .before .args .events) (c .before .before .before .before .before .before .before .before .before .before .before .args .before .now) (c .before .before .before .before .before .before .before .before .before .before .before .args .places .now) (c .before .before .before .before .before .before .before .before .before .before .before .pre .0) (c .before .before .before .before .loop .e) (omega (arith, c .before .before .before .before .before .before .before .before .before .before .before .pre .0 .within .all)))
 
-add-at-2 : tie.Need-add-at-2 Inv-loop μ-loop
-add-at-2 c =
+add-at : tie.Need-add-at Inv-loop μ-loop
+add-at c =
     omega (arith, walk-within (c .before .before .before .before .before .before .before .before .before .before .before .args .table .now) (c .before .before .before .before .loop .e) (c .before .before .before .before .loop .at) (omega (arith, c .before .before .before .before .before .before .before .before .before .before .before .pre .0 .within .all)) (c .before .before .before .before .loop .inv .1))
 
-add-at-3 : tie.Need-add-at-3 Inv-loop μ-loop
-add-at-3 c =
-    omega (arith, walk-within (c .before .before .before .before .before .before .before .before .before .before .before .before .args .table .now) (c .before .before .before .before .before .loop .e) (c .before .before .before .before .before .loop .at) (omega (arith, c .before .before .before .before .before .before .before .before .before .before .before .before .pre .0 .within .all)) (c .before .before .before .before .before .loop .inv .1), c .word2 .ensures)
+add-at-2 : tie.Need-add-at-2 Inv-loop μ-loop
+add-at-2 c =
+    omega (arith, walk-within (c .before .before .before .before .before .before .before .before .before .before .before .before .args .table .now) (c .before .before .before .before .before .loop .e) (c .before .before .before .before .before .loop .at) (omega (arith, c .before .before .before .before .before .before .before .before .before .before .before .before .pre .0 .within .all)) (c .before .before .before .before .before .loop .inv .1), c .word .ensures)
 
 loop-again : tie.Need-loop-again Inv-loop μ-loop
 loop-again c =
     let s = c .before .before .before .before .before .before .before .before .before .before .before .before .args .table .now in
     let f : ℕ → ℕ = λ k. sum (size (netOf s)) k + joinedAll s (c .before .before .before .before .before .before .before .before .before .before .before .before .args .markers .now) (c .before .before .before .before .before .before .before .before .before .before .before .before .args .places .now) 0 (netOf s .preconditions k) in
     let v = event-number s (c .before .before .before .before .before .before .before .before .before .before .before .before .args .markers .now) (c .before .before .before .before .before .before .before .before .before .before .before .before .args .events) (c .before .before .before .before .before .before .before .before .before .before .before .before .args .before .now) (c .before .before .before .before .before .before .before .before .before .before .before .before .args .places .now) (c .before .before .before .before .before .before .before .before .before .before .before .before .pre .0) (c .before .before .before .before .before .loop .e) (omega (arith, c .before .before .before .before .before .before .before .before .before .before .before .before .pre .0 .within .all)) (c .before .before .before .before .before .loop .at) (c .before .before .before .before .before .loop .inv .1) _ (c .before .before .before .list-at .ensures) (c .before .before .joined-all .result) (c .before .number .result) (c .before .before .joined-all .ensures) (c .before .number .ensures) in
-    let on = walk-next s (c .before .before .before .before .before .loop .e) (c .before .before .before .before .before .loop .at) (omega (arith, c .before .before .before .before .before .before .before .before .before .before .before .before .pre .0 .within .all)) (c .before .before .before .before .before .loop .inv .1) (c .word2 .result) (c .word2 .ensures) in
+    let on = walk-next s (c .before .before .before .before .before .loop .e) (c .before .before .before .before .before .loop .at) (omega (arith, c .before .before .before .before .before .before .before .before .before .before .before .before .pre .0 .within .all)) (c .before .before .before .before .before .loop .inv .1) (c .word .result) (c .word .ensures) in
     (omega arith, on, record { long = simp length-set (c .before .before .before .before .before .loop .inv .2 .long); each = set-more f (c .before .before .before .before .before .loop .numbers) (c .before .before .before .before .before .loop .e) (c .before .number .result + c .before .before .joined-all .result) (omega (arith, c .before .before .before .before .before .loop .inv .2 .long, c .before .before .before .before .before .before .before .before .before .before .before .before .pre .0 .within .all, c .before .before .before .before .before .before .before .before .before .before .before .before .pre .0 .within .marked .limits .few-events)) v (c .before .before .before .before .before .loop .inv .2 .each) })
 
 returns : tie.Need-returns Inv-loop μ-loop
@@ -64,8 +64,6 @@ event-numbers-spec =
     Inv-loop
     μ-loop
     (λ c κs. search needs)
-    (λ c. search needs)
-    (λ c. search needs)
     loop-holds
     (λ c κs. search needs)
     joined-all-requires
@@ -73,10 +71,10 @@ event-numbers-spec =
     add-numbers
     (λ c. search needs)
     (λ c. search needs)
-    add-at-2
+    add-at
     (λ c κs. search needs)
     (λ c. search needs)
-    add-at-3
+    add-at-2
     (λ c. search needs)
     (λ c. search needs)
     loop-again

@@ -5,7 +5,7 @@ use Prim.Native.Nat.{_-_, _≤_}
 use mathlib.Core.Path.{_≡_, _∙_, sym}
 use Rattle.table.specs.Walk.{offsetOf}
 use Rattle.table.specs.Decoded.{netOf}
-use Rattle.tally.proofs.Events.{walk-first, walk-next, walk-within}
+use Rattle.tally.proofs.Events.{walk-next, walk-within}
 use Rattle.places.proofs.Counting.{Counting, counting-none, counting-room, counting-next, counting-end}
 use Rattle.places.proofs.marker_places.Statement.{statement}
 use Rattle.places.proofs.marker_places.Tie as tie
@@ -20,25 +20,25 @@ abbrev μ-loop : tie.MeasureT-loop
 
 loop-holds : tie.Need-loop-holds Inv-loop μ-loop
 loop-holds c =
-    (omega arith, walk-first (c .before .before .before .before .before .before .before .args .table .now) (c .word .result) (c .word .ensures), counting-none _ _ _ (c .before .before .before .begin-places .ensures))
+    (omega arith, c .offset .ensures, counting-none _ _ _ (c .before .before .before .begin-places .ensures))
 
 count-event-requires : tie.Need-count-event-requires Inv-loop μ-loop
 count-event-requires c κs =
     let s = c .before .before .before .before .before .before .before .before .before .before .before .args .table .now in
     (counting-room s _ (c .before .before .before .loop .e) _ (omega arith) (c .before .before .before .loop .inv .2) (c .before .before .before .loop .at) (c .before .before .before .loop .inv .1) _ (c .before .list-at .ensures), c .before .before .before .loop .inv .2 .size)
 
-add-at-2 : tie.Need-add-at-2 Inv-loop μ-loop
-add-at-2 c =
+add-at : tie.Need-add-at Inv-loop μ-loop
+add-at c =
     omega (arith, walk-within (c .before .before .before .before .before .before .before .before .before .before .before .before .before .before .args .table .now) (c .before .before .before .before .before .before .loop .e) (c .before .before .before .before .before .before .loop .at) (omega arith) (c .before .before .before .before .before .before .loop .inv .1))
 
-add-at-3 : tie.Need-add-at-3 Inv-loop μ-loop
-add-at-3 c =
-    omega (arith, walk-within (c .before .before .before .before .before .before .before .before .before .before .before .before .before .before .before .args .table .now) (c .before .before .before .before .before .before .before .loop .e) (c .before .before .before .before .before .before .before .loop .at) (omega arith) (c .before .before .before .before .before .before .before .loop .inv .1), c .word2 .ensures)
+add-at-2 : tie.Need-add-at-2 Inv-loop μ-loop
+add-at-2 c =
+    omega (arith, walk-within (c .before .before .before .before .before .before .before .before .before .before .before .before .before .before .before .args .table .now) (c .before .before .before .before .before .before .before .loop .e) (c .before .before .before .before .before .before .before .loop .at) (omega arith) (c .before .before .before .before .before .before .before .loop .inv .1), c .word .ensures)
 
 loop-again : tie.Need-loop-again Inv-loop μ-loop
 loop-again c =
     let s = c .before .before .before .before .before .before .before .before .before .before .before .before .before .before .before .args .table .now in
-    let on = walk-next s (c .before .before .before .before .before .before .before .loop .e) (c .before .before .before .before .before .before .before .loop .at) (omega arith) (c .before .before .before .before .before .before .before .loop .inv .1) (c .word2 .result) (c .word2 .ensures) in
+    let on = walk-next s (c .before .before .before .before .before .before .before .loop .e) (c .before .before .before .before .before .before .before .loop .at) (omega arith) (c .before .before .before .before .before .before .before .loop .inv .1) (c .word .result) (c .word .ensures) in
     let t = counting-next s _ (c .before .before .before .before .before .before .before .loop .e) _ (omega arith) (c .before .before .before .before .before .before .before .loop .inv .2) (c .before .before .before .before .before .before .before .loop .at) (c .before .before .before .before .before .before .before .loop .inv .1) _ (c .before .before .before .before .before .list-at .ensures) in
     (omega arith, on, rw (c .before .before .before .count-event .ensures) t)
 
@@ -58,15 +58,13 @@ marker-places-spec =
     μ-loop
     (λ c κs. search needs)
     (λ c κs. search needs)
-    (λ c. search needs)
-    (λ c. search needs)
     loop-holds
     (λ c κs. search needs)
     count-event-requires
-    add-at-2
+    add-at
     (λ c κs. search needs)
     (λ c. search needs)
-    add-at-3
+    add-at-2
     (λ c. search needs)
     (λ c. search needs)
     loop-again

@@ -7,7 +7,7 @@ use mathlib.Core.Logic.{⊎-elim}
 use lib.Dec.{eqb}
 use Rattle.table.specs.Walk.{offsetOf}
 use Rattle.table.specs.Decoded.{netOf}
-use Rattle.tally.proofs.Events.{walk-first, walk-next, walk-within}
+use Rattle.tally.proofs.Events.{walk-next, walk-within}
 use Rattle.repeats.proofs.Walk.{marks-walk, Upto, upto-none, upto-next, upto-all}
 use Rattle.repeats.proofs.once_only.Statement.{statement}
 use Rattle.repeats.proofs.once_only.Tie as tie
@@ -22,24 +22,24 @@ abbrev μ-loop : tie.MeasureT-loop
 
 loop-holds : tie.Need-loop-holds Inv-loop μ-loop
 loop-holds c =
-    (omega arith, walk-first (c .before .before .before .before .args .table .now) (c .word .result) (c .word .ensures), upto-none (netOf (c .before .before .before .before .args .table .now)) (c .before .before .before .before .args .once .now) (c .before .before .before .before .pre .1 .1))
+    (omega arith, c .offset .ensures, upto-none (netOf (c .before .before .before .before .args .table .now)) (c .before .before .before .before .args .once .now) (c .before .before .before .before .pre .1 .1))
 
 slice-write-once : tie.Need-slice-write-once Inv-loop μ-loop
 slice-write-once c =
     omega (arith, c .before .before .before .before .before .loop .inv .2 .size, c .before .before .before .before .before .before .before .before .before .before .pre .1 .0 .limits .few-events)
 
-add-at-2 : tie.Need-add-at-2 Inv-loop μ-loop
-add-at-2 c =
+add-at : tie.Need-add-at Inv-loop μ-loop
+add-at c =
     omega (arith, walk-within (c .before .before .before .before .before .before .before .before .before .before .args .table .now) (c .before .before .before .before .before .loop .e) (c .before .before .before .before .before .loop .at) (omega arith) (c .before .before .before .before .before .loop .inv .1))
 
-add-at-3 : tie.Need-add-at-3 Inv-loop μ-loop
-add-at-3 c =
-    omega (arith, walk-within (c .before .before .before .before .before .before .before .before .before .before .before .args .table .now) (c .before .before .before .before .before .before .loop .e) (c .before .before .before .before .before .before .loop .at) (omega arith) (c .before .before .before .before .before .before .loop .inv .1), c .word2 .ensures)
+add-at-2 : tie.Need-add-at-2 Inv-loop μ-loop
+add-at-2 c =
+    omega (arith, walk-within (c .before .before .before .before .before .before .before .before .before .before .before .args .table .now) (c .before .before .before .before .before .before .loop .e) (c .before .before .before .before .before .before .loop .at) (omega arith) (c .before .before .before .before .before .before .loop .inv .1), c .word .ensures)
 
 loop-again : tie.Need-loop-again Inv-loop μ-loop
 loop-again c =
     let s = c .before .before .before .before .before .before .before .before .before .before .before .args .table .now in
-    let on = walk-next s (c .before .before .before .before .before .before .loop .e) (c .before .before .before .before .before .before .loop .at) (omega arith) (c .before .before .before .before .before .before .loop .inv .1) (c .word2 .result) (c .word2 .ensures) in
+    let on = walk-next s (c .before .before .before .before .before .before .loop .e) (c .before .before .before .before .before .before .loop .at) (omega arith) (c .before .before .before .before .before .before .loop .inv .1) (c .word .result) (c .word .ensures) in
     let m = marks-walk s (c .before .before .before .before .before .before .before .before .before .before .before .args .users .now) (c .before .before .before .before .before .before .before .before .before .before .before .pre .1 .0) (c .before .before .before .before .before .before .loop .e) (omega arith) (c .before .before .before .before .before .before .loop .at) (c .before .before .before .before .before .before .loop .inv .1) (c .before .before .before .before .list-at .result .now) (c .before .before .before .before .list-at .ensures) (c .before .before .before .list-at2 .result .now) (c .before .before .before .list-at2 .ensures) (c .before .before .marks-for-others .ensures) in
     let v : eqb (c .before .if1 .once) 1 ≡ c .before .before .marks-for-others .result =
     ⊎-elim (λ w. ap (λ (x : ℕ). eqb x 1) (w .1) ∙ sym (w .0 .taken)) (λ w. ap (λ (x : ℕ). eqb x 1) (w .1) ∙ sym (w .0 .left)) (c .before .if1 .came) in
@@ -60,17 +60,15 @@ once-only-spec =
     Inv-loop
     μ-loop
     (λ c κs. search needs)
-    (λ c. search needs)
-    (λ c. search needs)
     loop-holds
     (λ c κs. search needs)
     (λ c κs. search needs)
     (λ c κs. search needs)
     slice-write-once
-    add-at-2
+    add-at
     (λ c κs. search needs)
     (λ c. search needs)
-    add-at-3
+    add-at-2
     (λ c. search needs)
     (λ c. search needs)
     loop-again

@@ -26,11 +26,11 @@ loop-holds c =
 
 segment-at-requires : tie.Need-segment-at-requires Inv-loop μ-loop
 segment-at-requires c κs =
-    (c .before .before .before .before .before .before .before .before .before .before .before .before .before .pre .0, omega (arith, c .before .before .word .ensures, c .before .before .before .before .before .before .before .before .before .before .before .before .before .pre .1 .0))
+    (c .before .before .before .before .before .before .before .before .before .before .before .before .before .pre .0, omega (arith, c .before .before .conditions .ensures, c .before .before .before .before .before .before .before .before .before .before .before .before .before .pre .1 .0))
 
 keep-segment-requires : tie.Need-keep-segment-requires Inv-loop μ-loop
 keep-segment-requires c κs =
-    (omega (arith, c .before .before .before .before .before .word .ensures, c .before .before .before .before .before .before .before .before .before .before .before .before .before .before .before .before .pre .1 .0, c .before .before .before .before .before .before .before .before .before .before .before .before .before .before .before .before .pre .0 .limits .few-conditions, c .before .before .before .before .loop .inv .1), omega (arith, c .before .before .before .before .before .word .ensures, c .before .before .before .before .before .before .before .before .before .before .before .before .before .before .before .before .pre .1 .0, c .before .before .before .before .before .before .before .before .before .before .before .before .before .before .before .before .pre .0 .limits .few-conditions, c .before .before .before .before .loop .inv .2))
+    (omega (arith, c .before .before .before .before .before .conditions .ensures, c .before .before .before .before .before .before .before .before .before .before .before .before .before .before .before .before .pre .1 .0, c .before .before .before .before .before .before .before .before .before .before .before .before .before .before .before .before .pre .0 .limits .few-conditions, c .before .before .before .before .loop .inv .1), omega (arith, c .before .before .before .before .before .conditions .ensures, c .before .before .before .before .before .before .before .before .before .before .before .before .before .before .before .before .pre .1 .0, c .before .before .before .before .before .before .before .before .before .before .before .before .before .before .before .before .pre .0 .limits .few-conditions, c .before .before .before .before .loop .inv .2))
 
 loop-again : tie.Need-loop-again Inv-loop μ-loop
 loop-again c =
@@ -40,7 +40,7 @@ loop-again c =
 returns : tie.Need-returns Inv-loop μ-loop
 returns c =
     let f = added (netOf (c .before .before .before .before .before .before .before .before .before .before .before .before .before .args .table .now)) (c .before .before .before .before .before .before .before .before .before .before .before .before .before .args .post) (eventAt (netOf (c .before .before .before .before .before .before .before .before .before .before .before .before .before .args .table .now)) (c .before .before .before .before .before .before .before .before .before .before .before .before .before .args .own .event) (c .before .before .before .before .before .before .before .before .before .before .before .before .before .args .own .rest)) in
-    subst (λ (k : ℕ). ranged (c .before .loop .starts) (c .before .loop .sizes) (2 * k) ≡ spread f (count 0 k)) (omega (arith, c .before .before .word .ensures)) (c .before .loop .inv .3)
+    subst (λ (k : ℕ). ranged (c .before .loop .starts) (c .before .loop .sizes) (2 * k) ≡ spread f (count 0 k)) (omega (arith, c .before .before .conditions .ensures)) (c .before .loop .inv .3)
 
 pub lay-spec : {M : Type 1} → statement M
 lay-spec =

@@ -20,7 +20,7 @@ returns c =
 
 returns-2 : tie.Need-returns-2
 returns-2 c =
-    let count = c .before .before .number .ensures ∙ count-is (c .before .before .before .before .before .before .before .before .before .before .before .before .before .before .before .before .before .args .table .now) _ _ _ _ (laid-judged (c .before .before .before .before .before .before .before .before .before .before .before .before .before .before .before .before .before .args .table .now) (c .before .before .before .before .before .before .before .before .before .before .before .lay-out .ensures .answer) (c .before .before .before .before .before .before .laid .given .1)) (c .before .before .before .before .before .before .before .before .before .before .before .lay-out .ensures .laid _ (c .before .before .before .before .before .before .laid .given .1)) (c .before .before .before .word .result) (c .before .before .before .word .ensures) in
+    let count = c .before .before .number .ensures ∙ count-is (c .before .before .before .before .before .before .before .before .before .before .before .before .before .before .before .before .before .args .table .now) _ _ _ _ (laid-judged (c .before .before .before .before .before .before .before .before .before .before .before .before .before .before .before .before .before .args .table .now) (c .before .before .before .before .before .before .before .before .before .before .before .lay-out .ensures .answer) (c .before .before .before .before .before .before .laid .given .1)) (c .before .before .before .before .before .before .before .before .before .before .before .lay-out .ensures .laid _ (c .before .before .before .before .before .before .laid .given .1)) (c .before .before .before .conditions .result) (c .before .before .before .conditions .ensures) in
     let e = c .refused .ensures ∙ start-short (c .before .before .before .before .before .before .before .before .before .before .before .before .before .before .before .before .before .args .table .now) (c .before .before .before .before .before .before .before .before .before .before .before .before .before .before .before .before .before .args .out .now) (λ own. unfolds-on (c .before .before .before .before .before .before .before .before .before .before .before .before .before .before .before .before .before .args .table .now) own (netOf (c .before .before .before .before .before .before .before .before .before .before .before .before .before .before .before .before .before .args .table .now) .events) (c .before .before .before .before .before .before .before .before .before .before .before .lay-out .ensures .answer) (c .before .before .before .before .before .before .laid .given .1) .0) (c .before .before .number .result) count (c .before .if1 .taken) in
     (e, start-refused (c .before .before .before .before .before .before .before .before .before .before .before .before .before .before .before .before .before .args .table .now) (c .before .before .before .before .before .before .before .before .before .before .before .before .before .before .before .before .before .args .out .now) e (c .refused .ensures))
 
@@ -28,12 +28,12 @@ write-start-requires : tie.Need-write-start-requires
 write-start-requires c κs =
     let j = laid-judged (c .before .before .before .before .before .before .before .before .before .before .before .before .before .before .before .before .before .before .before .args .table .now) (c .before .before .before .before .before .before .before .before .before .before .before .before .before .lay-out .ensures .answer) (c .before .before .before .before .before .before .before .before .laid .given .1) in
     let l = c .before .before .before .before .before .before .before .before .before .before .before .before .before .lay-out .ensures .laid _ (c .before .before .before .before .before .before .before .before .laid .given .1) in
-    let count : c .before .before .before .before .number .result ≡ basic (netOf (c .before .before .before .before .before .before .before .before .before .before .before .before .before .before .before .before .before .before .before .args .table .now)) .conditions = c .before .before .before .before .number .ensures ∙ count-is (c .before .before .before .before .before .before .before .before .before .before .before .before .before .before .before .before .before .before .before .args .table .now) _ _ _ _ j l (c .before .before .before .before .before .word .result) (c .before .before .before .before .before .word .ensures) in
+    let count : c .before .before .before .before .number .result ≡ basic (netOf (c .before .before .before .before .before .before .before .before .before .before .before .before .before .before .before .before .before .before .before .args .table .now)) .conditions = c .before .before .before .before .number .ensures ∙ count-is (c .before .before .before .before .before .before .before .before .before .before .before .before .before .before .before .before .before .before .before .args .table .now) _ _ _ _ j l (c .before .before .before .before .before .conditions .result) (c .before .before .before .before .before .conditions .ensures) in
     (record { markers = _; laid = l; fits = omega (arith, count, c .before .before .before .if1 .left) }, j)
 
 returns-3 : tie.Need-returns-3
 returns-3 c =
-    let count = c .before .before .before .before .before .before .before .number .ensures ∙ count-is (c .before .before .before .before .before .before .before .before .before .before .before .before .before .before .before .before .before .before .before .before .before .before .args .table .now) _ _ _ _ (laid-judged (c .before .before .before .before .before .before .before .before .before .before .before .before .before .before .before .before .before .before .before .before .before .before .args .table .now) (c .before .before .before .before .before .before .before .before .before .before .before .before .before .before .before .before .lay-out .ensures .answer) (c .before .before .before .before .before .before .before .before .before .before .before .laid .given .1)) (c .before .before .before .before .before .before .before .before .before .before .before .before .before .before .before .before .lay-out .ensures .laid _ (c .before .before .before .before .before .before .before .before .before .before .before .laid .given .1)) (c .before .before .before .before .before .before .before .before .word .result) (c .before .before .before .before .before .before .before .before .word .ensures) in
+    let count = c .before .before .before .before .before .before .before .number .ensures ∙ count-is (c .before .before .before .before .before .before .before .before .before .before .before .before .before .before .before .before .before .before .before .before .before .before .args .table .now) _ _ _ _ (laid-judged (c .before .before .before .before .before .before .before .before .before .before .before .before .before .before .before .before .before .before .before .before .before .before .args .table .now) (c .before .before .before .before .before .before .before .before .before .before .before .before .before .before .before .before .lay-out .ensures .answer) (c .before .before .before .before .before .before .before .before .before .before .before .laid .given .1)) (c .before .before .before .before .before .before .before .before .before .before .before .before .before .before .before .before .lay-out .ensures .laid _ (c .before .before .before .before .before .before .before .before .before .before .before .laid .given .1)) (c .before .before .before .before .before .before .before .before .conditions .result) (c .before .before .before .before .before .before .before .before .conditions .ensures) in
     let e = start-room (c .before .before .before .before .before .before .before .before .before .before .before .before .before .before .before .before .before .before .before .before .before .before .args .table .now) (c .before .before .before .before .before .before .before .before .before .before .before .before .before .before .before .before .before .before .before .before .before .before .args .out .now) (λ own. unfolds-on (c .before .before .before .before .before .before .before .before .before .before .before .before .before .before .before .before .before .before .before .before .before .before .args .table .now) own (netOf (c .before .before .before .before .before .before .before .before .before .before .before .before .before .before .before .before .before .before .before .before .before .before .args .table .now) .events) (c .before .before .before .before .before .before .before .before .before .before .before .before .before .before .before .before .lay-out .ensures .answer) (c .before .before .before .before .before .before .before .before .before .before .before .laid .given .1) .0) (c .before .before .before .before .before .before .before .number .result) count (c .before .before .before .before .before .before .if1 .left) in
     (e, start-fine (c .before .before .before .before .before .before .before .before .before .before .before .before .before .before .before .before .before .before .before .before .before .before .args .table .now) (c .before .before .before .before .before .before .before .before .before .before .before .before .before .before .before .before .before .before .before .before .before .before .args .out .now) e refl _ (c .before .before .write-start .ensures))
 

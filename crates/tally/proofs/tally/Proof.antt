@@ -1,5 +1,5 @@
 -- `tally::tally` meets its contract.
-use Rattle.tally.proofs.Events.{walk-first, walk-next, walk-within}
+use Rattle.tally.proofs.Events.{walk-next, walk-within}
 use borrow.Author.Needs.{needs}
 use native.Mathlib.Omega.{arith}
 use mathlib.Core.Path.{_≡_}
@@ -22,23 +22,23 @@ abbrev μ-loop : tie.MeasureT-loop
 loop-holds : tie.Need-loop-holds Inv-loop μ-loop
 loop-holds c =
     let t = tally-none (netOf (c .before .before .before .before .before .before .before .args .table .now)) (c .before .before .before .before .before .before .before .args .post) (c .before .before .before .before .before .before .before .args .first) (length (c .before .before .before .before .before .before .before .args .counts .now)) (c .before .before .before .fill .last .0) (omega arith) (c .before .before .before .fill .ensures) in
-    (omega arith, walk-first (c .before .before .before .before .before .before .before .args .table .now) (c .word .result) (c .word .ensures), t .size, t)
+    (omega arith, c .offset .ensures, t .size, t)
 
 raise-low-requires : tie.Need-raise-low-requires Inv-loop μ-loop
 raise-low-requires c κs =
     (tally-room (c .before .before .before .before .before .before .before .before .before .before .before .args .table .now) (c .before .before .before .before .before .before .before .before .before .before .before .args .post) (c .before .before .before .before .before .before .before .before .before .before .before .args .first) (c .before .before .before .loop .i) (c .before .before .before .loop .counts) (omega arith) (omega arith) (c .before .before .before .loop .inv .3) (c .before .before .before .loop .at) (c .list-at .result .now) (c .before .before .before .loop .inv .1) (c .list-at .ensures), c .before .before .before .loop .inv .2)
 
-add-at-2 : tie.Need-add-at-2 Inv-loop μ-loop
-add-at-2 c =
+add-at : tie.Need-add-at Inv-loop μ-loop
+add-at c =
     omega (arith, walk-within (c .before .before .before .before .before .before .before .before .before .before .before .before .before .before .args .table .now) (c .before .before .before .before .before .before .loop .i) (c .before .before .before .before .before .before .loop .at) (omega arith) (c .before .before .before .before .before .before .loop .inv .1))
 
-add-at-3 : tie.Need-add-at-3 Inv-loop μ-loop
-add-at-3 c =
-    omega (arith, walk-within (c .before .before .before .before .before .before .before .before .before .before .before .before .before .before .before .args .table .now) (c .before .before .before .before .before .before .before .loop .i) (c .before .before .before .before .before .before .before .loop .at) (omega arith) (c .before .before .before .before .before .before .before .loop .inv .1), c .word2 .ensures)
+add-at-2 : tie.Need-add-at-2 Inv-loop μ-loop
+add-at-2 c =
+    omega (arith, walk-within (c .before .before .before .before .before .before .before .before .before .before .before .before .before .before .before .args .table .now) (c .before .before .before .before .before .before .before .loop .i) (c .before .before .before .before .before .before .before .loop .at) (omega arith) (c .before .before .before .before .before .before .before .loop .inv .1), c .word .ensures)
 
 loop-again : tie.Need-loop-again Inv-loop μ-loop
 loop-again c =
-    let on = walk-next (c .before .before .before .before .before .before .before .before .before .before .before .before .before .before .before .args .table .now) (c .before .before .before .before .before .before .before .loop .i) (c .before .before .before .before .before .before .before .loop .at) (omega arith) (c .before .before .before .before .before .before .before .loop .inv .1) (c .word2 .result) (c .word2 .ensures) in
+    let on = walk-next (c .before .before .before .before .before .before .before .before .before .before .before .before .before .before .before .args .table .now) (c .before .before .before .before .before .before .before .loop .i) (c .before .before .before .before .before .before .before .loop .at) (omega arith) (c .before .before .before .before .before .before .before .loop .inv .1) (c .word .result) (c .word .ensures) in
     let t = tally-next (c .before .before .before .before .before .before .before .before .before .before .before .before .before .before .before .args .table .now) (c .before .before .before .before .before .before .before .before .before .before .before .before .before .before .before .args .post) (c .before .before .before .before .before .before .before .before .before .before .before .before .before .before .before .args .first) (c .before .before .before .before .before .before .before .loop .i) (c .before .before .before .before .before .before .before .loop .counts) (omega arith) (omega arith) (c .before .before .before .before .before .before .before .loop .inv .3) (c .before .before .before .before .before .before .before .loop .at) (c .before .before .before .before .list-at .result .now) (c .before .before .before .before .before .before .before .loop .inv .1) (c .before .before .before .before .list-at .ensures) in
     (omega arith, on, rw (c .before .before .before .raise-low .ensures) (t .size), rw (c .before .before .before .raise-low .ensures) t)
 
@@ -55,15 +55,13 @@ tally-spec =
     μ-loop
     (λ c κs. search needs)
     (λ c κs. search needs)
-    (λ c. search needs)
-    (λ c. search needs)
     loop-holds
     (λ c κs. search needs)
     raise-low-requires
-    add-at-2
+    add-at
     (λ c κs. search needs)
     (λ c. search needs)
-    add-at-3
+    add-at-2
     (λ c. search needs)
     (λ c. search needs)
     loop-again

@@ -21,7 +21,7 @@ returns-2 c =
     let own = Fine (basic (netOf s) .conditions) in
     let j = unfolds-judged s own (netOf (c .before .before .before .before .before .before .before .before .before .before .before .before .before .args .table .now) .events) (c .before .before .before .before .before .before .before .before .lay-out .ensures .answer) (c .before .before .before .enum-told .given .1) in
     let l = c .before .before .before .before .before .before .before .before .lay-out .ensures .laid (c .before .before .before .enum-told .given .0 .0) (c .before .before .before .enum-told .given .1) in
-    ap Fine (c .number .ensures ∙ ap (λ (x : ℕ). getD (c .before .before .before .before .before .before .before .before .lay-out .last .1 .1 .1 .0) x 0) (c .before .before .word .ensures) ∙ conditions-count s (c .before .before .before .before .before .before .before .before .lay-out .last .1 .0) (c .before .before .before .before .before .before .before .before .lay-out .last .1 .1 .0) (c .before .before .before .before .before .before .before .before .lay-out .last .1 .1 .1 .0) (j .0) l (j .1)) ∙ sym (unfolds-on s own (netOf (c .before .before .before .before .before .before .before .before .before .before .before .before .before .args .table .now) .events) (c .before .before .before .before .before .before .before .before .lay-out .ensures .answer) (c .before .before .before .enum-told .given .1) .0)
+    ap Fine (c .number .ensures ∙ ap (λ (x : ℕ). getD (c .before .before .before .before .before .before .before .before .lay-out .last .1 .1 .1 .0) x 0) (c .before .before .conditions .ensures) ∙ conditions-count s (c .before .before .before .before .before .before .before .before .lay-out .last .1 .0) (c .before .before .before .before .before .before .before .before .lay-out .last .1 .1 .0) (c .before .before .before .before .before .before .before .before .lay-out .last .1 .1 .1 .0) (j .0) l (j .1)) ∙ sym (unfolds-on s own (netOf (c .before .before .before .before .before .before .before .before .before .before .before .before .before .args .table .now) .events) (c .before .before .before .before .before .before .before .before .lay-out .ensures .answer) (c .before .before .before .enum-told .given .1) .0)
 
 pub condition-count-spec : {M : Type 1} → statement M
 condition-count-spec =
