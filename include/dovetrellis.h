@@ -27,7 +27,7 @@
  *    2  a kind that is not allowed there                         the record's offset
  *    3  a payload length that breaks its kind's rule             the record's offset
  *       a run of over 4,096 steps                                0
- *    4  a condition byte above 1                                 the record's offset
+ *    4  a condition byte or the rule's byte above 1              the record's offset
  *    5  a list that does not ascend or names no condition        the record's offset
  *    6  a 257th event                                            the record's offset
  *    7  an event with both lists empty                           the record's offset
@@ -48,7 +48,10 @@
  * The refusals of a call come in the order in which its comment lists them: the first that applies is given. At one step of a run 10
  * comes before 11 and 11 before 12; all steps come before what is listed after them. "The table's" are 1 to 9.
  *
- * A table is the bytes of its records (docs/FORMAT.md). A marking is one byte for each condition, 0 or 1. Events, conditions, their
+ * A table is the bytes of its records (docs/FORMAT.md). By its rule a held ordinary postcondition stops an event unless it is a
+ * precondition too (rule 0, also without a Rule record), or stops it all the same (1, the old rule); in the unfolded net this goes for
+ * what stands for an ordinary condition, and copies of persistent conditions follow rule 0. No call tells the rule: it is byte 4 of a
+ * table whose bytes 2 and 3 are 6 and 0. A marking is one byte for each condition, 0 or 1. Events, conditions, their
  * unfolded forms and the elements of the export are numbered from 0.
  */
 #ifndef DOVETRELLIS_H

@@ -1,6 +1,6 @@
 -- What is told from the table's marking and the events that have occurred is what stops the unfolded event at the unfolded marking, down
 -- to the unfolded condition.
-use mathlib.Core.Path.{_≡_, refl, sym, _∙_, ap, subst}
+use mathlib.Core.Path.{_≡_, refl, sym, _∙_, ap, ap₂, subst}
 use mathlib.Core.Bool.{Bool, true, false, not, _&&_, _||_, cond, and-true}
 use mathlib.Core.Option.{Option, none, some}
 use mathlib.Core.List.{List, [], _∷_, map, List·Memᴰ·cases-cons, Memᴰ·of-map}
@@ -20,7 +20,7 @@ use Rattle.model.specs.Runs.{Marker, atStart, byEvent, State}
 use Rattle.model.specs.Unfolding.{sameMarker, UnfoldedCondition, ordinary, copy, markers, users, unfoldedConditions, unfoldedEvents, reads, picked, takes, puts, origin, basic}
 use Rattle.model.specs.Numbering.{conditionNumber}
 use Rattle.model.proofs.Laws.{marked}
-use Rattle.model.proofs.Unfolded.{Each, choices-each, sameMarker-refl, sameMarker-eq, kind-of, pair-of, colour-out, takes-at, puts-at, in-pre, in-post, origin-in}
+use Rattle.model.proofs.Unfolded.{Each, choices-each, sameMarker-refl, sameMarker-eq, kind-of, pair-of, colour-out, takes-at, puts-at, in-pre, in-post, free-ordinary, free-copy, origin-in}
 use Rattle.model.proofs.Numbers.{condition-at}
 use Rattle.model.proofs.Counts.{condition-back}
 use Rattle.model.proofs.Copies.{status, Copies}
@@ -196,20 +196,27 @@ module _ (n : Net) (d : Sound n) (s : State) (u : Marking) (i : Copies n s u) (j
   abbrev met : ℕ → UnfoldedCondition
   met b = metCondition n pick e b
 
-  -- an unfolded condition in contact is put, holds and is not taken
+  -- what stands for an ordinary condition is excused as that is, and a copy that is taken
+  abbrev excuses : UnfoldedCondition → Bool
+  excuses (ordinary b) = free n e b
+  excuses (copy b y v) = takes n (origin n j) (copy b y v)
+
+  -- an unfolded condition in contact is put, holds and is not excused
   record Contact (p : UnfoldedCondition) : Type 0 where
     inside : p ∈ unfoldedConditions n
     put : T (puts n (origin n j) p)
     held : T (status n s p)
-    kept : takes n (origin n j) p ≡ false
+    kept : excuses p ≡ false
 
-  test-is : (k : ℕ) (p : UnfoldedCondition) → getElem? (unfoldedConditions n) k ≡ some p → (not (u k) || free (basic n) j k) ≡ (not (status n s p) || takes n (origin n j) p)
-  unfolding free basic
-  test-is k p a = cc (i .holding k p a, takes-at n j k p a)
+  test-is : (k : ℕ) (p : UnfoldedCondition) → getElem? (unfoldedConditions n) k ≡ some p → (not (u k) || free (basic n) j k) ≡ (not (status n s p) || excuses p)
+  test-is k (ordinary b) a =
+      ap₂ {C = Bool} (λ x y. not x || y) (i .holding k (ordinary b) a) (free-ordinary n j k b a (kind-of n (ordinary b) (in-at (unfoldedConditions n) k a)))
+  test-is k (copy b y v) a =
+      ap₂ {C = Bool} (λ x z. not x || z) (i .holding k (copy b y v) a) (free-copy n j k b y v a ∙ takes-at n j k (copy b y v) a)
 
   -- a postcondition that is not clear leads to one
   met-contact : (b : ℕ) → T (mem b (n .postconditions e)) → opens b ≡ false → Contact (met b)
-  unfolding takes puts status marked free
+  unfolding takes puts status marked
   met-contact b t q = go (n .persistent b) refl there q
     where
       there : met b ∈ unfoldedConditions n
@@ -229,16 +236,16 @@ module _ (n : Net) (d : Sound n) (s : State) (u : Marking) (i : Copies n s u) (j
       go : (x : Bool) → n .persistent b ≡ x → cond x (copy b (byEvent e) (left n pick e b)) (ordinary b) ∈ unfoldedConditions n
           → cond x (not (s .seen e) || all (given b) (users n b)) (not (s .marking b) || free n e b) ≡ false
           → Contact (cond x (copy b (byEvent e) (left n pick e b)) (ordinary b))
-      go false p i q = let r = neither (s .marking b) (free n e b) q in record { inside = i; put = t; held = r .0; kept = rw p at (r .1) }
+      go false p i q = let r = neither (s .marking b) (free n e b) q in record { inside = i; put = t; held = r .0; kept = r .1 }
       go true p i q = let r = neither (s .seen e) (all (given b) (users n b)) q in copied i (r .0) (r .1)
 
   -- whatever is in contact comes of a postcondition that is not clear, which leads no further
   contact-for : (p : UnfoldedCondition) → Contact p
       → (b : ℕ) × T (mem b (n .postconditions e)) × (opens b ≡ false) × (owner p ≡ b) × (conditionNumber n (met b) ≤ conditionNumber n p)
-  unfolding takes puts status marked free
+  unfolding takes puts status marked
   contact-for (ordinary b) c =
       let p : n .persistent b ≡ false = kind-of n (ordinary b) (c .inside) in
-      (b, c .put, rw p (both-fail (s .marking b) (mem b (n .preconditions e)) (c .held) (c .kept)), refl, rw p (omega arith))
+      (b, c .put, rw p (both-fail (s .marking b) (free n e b) (c .held) (c .kept)), refl, rw p (omega arith))
   contact-for (copy b y v) c =
       let p : n .persistent b ≡ true = kind-of n (copy b y v) (c .inside) in
       let user = pair-of n (copy b y v) (c .inside) .1 in
@@ -272,11 +279,11 @@ module _ (n : Net) (d : Sound n) (s : State) (u : Marking) (i : Copies n s u) (j
         inside = λ b t q. let c = met-contact b t q in subst T (sym (puts-at n j (conditionNumber n (met b)) (met b) (condition-at n (met b) (c .inside)))) (c .put);
         fails = λ b t q.
             let c = met-contact b t q in
-            test-is (conditionNumber n (met b)) (met b) (condition-at n (met b) (c .inside)) ∙ both-fail (status n s (met b)) (takes n (origin n j) (met b)) (c .held) (c .kept);
+            test-is (conditionNumber n (met b)) (met b) (condition-at n (met b) (c .inside)) ∙ both-fail (status n s (met b)) (excuses (met b)) (c .held) (c .kept);
         back = λ k t q.
             let r = in-post n j k t in
             let p = r .0 in
-            let z = neither (status n s p) (takes n (origin n j) p) (sym (test-is k p (r .1)) ∙ q) in
+            let z = neither (status n s p) (excuses p) (sym (test-is k p (r .1)) ∙ q) in
             let there = in-at (unfoldedConditions n) k (r .1) in
             let w = contact-for p (record { inside = there; put = r .2; held = z .0; kept = z .1 }) in (
               w .0,

@@ -13,25 +13,27 @@ use Rattle.lists.proofs.Bools.{iff, is-false, and-left, and-right, or-left, or-
 use Rattle.lists.proofs.Members.{mem-in, in-mem}
 use Rattle.lists.proofs.Distinct.{Distinct}
 use Rattle.words.specs.Words.{words}
-use Rattle.records.specs.Records.{prePart, postPart}
+use Rattle.records.specs.Records.{oldRule, prePart, postPart}
 use Rattle.refusal.specs.declared.TableCondition.{TableCondition}
 use Rattle.model.specs.Net.{Net, begin, free, firstStop}
 use Rattle.model.specs.Runs.{Marker, byEvent}
 use Rattle.model.specs.Unfolding.{sameMarker, users}
 use Rattle.model.specs.Lent.{marking}
+use Rattle.model.proofs.Firing.{free-taken, free-never}
 use Rattle.model.proofs.Lent.{begun-marking}
 use Rattle.model.proofs.Unfolded.{event-uses}
 use Rattle.model.proofs.Counts.{distinct-users}
 use Rattle.table.specs.Decoded.{netOf}
 use Rattle.tally.specs.Having.{Listed}
-use Rattle.tally.proofs.Events.{within-limits, list-read, list-ascends, list-inside}
+use Rattle.table.proofs.Ruled.{rule-read}
+use Rattle.tally.proofs.Events.{judged, within-limits, list-read, list-ascends, list-inside}
 use Rattle.step.specs.declared.Step.the-variants.{Goes, Stops}
 use Rattle.step.specs.declared.Cause.the-variants.{Lacks, Meets}
 use Rattle.step.specs.declared.Failing.{Failing}
 use Rattle.step.specs.declared.Failing.the-variants.{Nothing, At}
 use Rattle.step.specs.Steps.{failingOf, stepOf}
 use Rattle.decided.specs.Decided.{hasMarked, ready, clear, stoppedBy}
-use Rattle.decided.specs.Kept.{markerAt, keptMarker, readyAt, backAt, clearAt, Deciding}
+use Rattle.decided.specs.Kept.{markerAt, keptMarker, readyAt, backAt, excused, clearAt, Deciding}
 use Rattle.decided.proofs.Decision.{user-reads}
 
 -- a byte that is read tells what holds
@@ -123,14 +125,21 @@ module _ (s us : List ℕ) (at e : ℕ) (begun places kept : List ℕ) (d : Deci
 
   clear-same : (b : ℕ) → b < 256 → (pre : List ℕ) → pre ≡ n .preconditions e
       → clearAt s us pre e (marking seen e) state places kept b ≡ clear n (marking state) (marking seen) (markerAt n places) e b
-  unfolding free
   clear-same b h pre q = rw (d .flags b) (go (n .persistent b) refl)
     where
+      rule : n .old b ≡ oldRule s
+      rule = rule-read s (n .events) (judged s e (d .event)) b
+
+      -- an ordinary condition is excused exactly if it is free
+      frees : n .persistent b ≡ false → (t : Bool) → oldRule s ≡ t → mem b (cond t [] pre) ≡ free n e b
+      frees p true t = sym (free-never n e b (rule ∙ t) ∙ p)
+      frees p false t = ap (mem b) q ∙ sym (free-taken n e b (rule ∙ t) ∙ ap (λ (x : Bool). x || mem b (n .preconditions e)) p)
+
       go : (t : Bool) → n .persistent b ≡ t
-          → cond t (not (marking seen e) || backAt us pre e places kept b) (not (marking state b) || mem b pre)
-          ≡ cond t (not (marking seen e) || all (λ u. eqb u e && own b) (users n b)) (not (marking state b) || (n .persistent b || mem b (n .preconditions e)))
+          → cond t (not (marking seen e) || backAt us pre e places kept b) (not (marking state b) || mem b (excused s pre))
+          ≡ cond t (not (marking seen e) || all (λ u. eqb u e && own b) (users n b)) (not (marking state b) || free n e b)
       go true p = ap (λ (x : Bool). not (marking seen e) || x) (back-same b h pre q)
-      go false p = rw (p, q)
+      go false p = ap (λ (x : Bool). not (marking state b) || x) (frees p (oldRule s) refl)
 
   -- ---- what the two walks find
 

@@ -2,7 +2,7 @@
 use Prim.Native.Nat.{ℕ, zero, suc, _≤_, _<_}
 use mathlib.Core.Path.{_≡_}
 use mathlib.Core.Bool.{Bool, true, false, not, _&&_, _||_, cond}
-use mathlib.Core.List.{List, map}
+use mathlib.Core.List.{List, [], map}
 use lib.Dec.{T, eqb}
 use lib.ListN.{length, getD}
 use Rattle.lists.specs.Lists.{mem, ascending, keep}
@@ -11,6 +11,7 @@ use Rattle.model.specs.Runs.{Marker, atStart, byEvent}
 use Rattle.model.specs.Unfolding.{markers}
 use Rattle.model.specs.Numbering.{digits}
 use Rattle.model.specs.Lent.{bytes, marking}
+use Rattle.records.specs.Records.{oldRule}
 use Rattle.table.specs.Decoded.{netOf}
 use Rattle.table.specs.Walk.{offsetOf}
 use Rattle.colours.specs.Colours.{flagged}
@@ -71,10 +72,14 @@ abbrev pub backAt : List ℕ → List ℕ → ℕ → List ℕ → List ℕ → 
 backAt users pre e places kept b =
     cond (eqb (getD users b 0) 0) true (cond (eqb (getD users b 0) 1) (mem b pre && (not (eqb (getD places b 0) 0) && eqb e (getD kept b 0))) false)
 
--- What a postcondition of event e must pass, where e has occurred before or not (01, Unfolding).
+-- The preconditions that excuse from contact: none under the old rule (02, No. 4).
+abbrev pub excused : List ℕ → List ℕ → List ℕ
+excused s pre = cond (oldRule s) [] pre
+
+-- What a postcondition of event e must pass, where e has occurred before or not (01, Unfolding; 02, No. 4).
 abbrev pub clearAt : List ℕ → List ℕ → List ℕ → ℕ → Bool → List ℕ → List ℕ → List ℕ → ℕ → Bool
 clearAt s users pre e again state places kept b =
-    cond (flagged s b) (not again || backAt users pre e places kept b) (not (marking state b) || mem b pre)
+    cond (flagged s b) (not again || backAt users pre e places kept b) (not (marking state b) || mem b (excused s pre))
 
 -- What must hold to decide the step of event e, whose record stands at an offset.
 pub record Deciding (s us : List ℕ) (at e : ℕ) (begun places kept : List ℕ) : Type 0 where

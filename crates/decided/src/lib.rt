@@ -12,7 +12,7 @@ ghost use Rattle.table.specs.Decoded.{netOf};
 ghost use Rattle.tally.specs.Having.{Listed, Members};
 ghost use Rattle.step.specs.Steps.{failingOf, stepOf};
 ghost use Rattle.decided.specs.Decided.{stoppedBy};
-ghost use Rattle.decided.specs.Kept.{markerAt, Kept, Keeping, Choosing, Chosen, markedAt, readyAt, backAt, clearAt, Deciding};
+ghost use Rattle.decided.specs.Kept.{markerAt, Kept, Keeping, Choosing, Chosen, markedAt, readyAt, backAt, excused, clearAt, Deciding};
 
 // The marker at a place among those of condition b, kept with its event; where it was the last one asked for, no event is looked for.
 fn keep(table: &[u8], events: usize, b: usize, place: u32, places: &mut [u32], kept: &mut [u32])
@@ -144,7 +144,7 @@ fn gives_back<'a>(
     false
 }
 
-// Whether a postcondition of event e stops no step, where e has occurred before or not, and its preconditions are marked.
+// Whether a postcondition of event e stops no step, where e has occurred before or not, and the preconditions that excuse are marked.
 fn is_clear<'a>(
     table: &'a [u8],
     users: &'a [u32],
@@ -157,7 +157,7 @@ fn is_clear<'a>(
     kept: &'a [u32],
     b: usize,
 ) -> bool
-    requires { ⌜ Members (words (now pre)) (now taken) ⌝ }
+    requires { ⌜ Members (excused (now table) (words (now pre))) (now taken) ⌝ }
     ensures { λ r. ⌜ r ≡ clearAt (now (table .entry)) (now (users .entry)) (words (now (pre .entry))) e again (now (state .entry)) (now (places .entry)) (now (kept .entry)) b ⌝ }
 {
     if colours::is_persistent(table, b) {
@@ -172,7 +172,7 @@ fn is_clear<'a>(
     true
 }
 
-// The first postcondition of event e that stops a step, where its preconditions are marked.
+// The first postcondition of event e that stops a step, where the preconditions that excuse are marked.
 fn first_meeting<'a>(
     table: &'a [u8],
     users: &'a [u32],
@@ -185,7 +185,7 @@ fn first_meeting<'a>(
     places: &'a [u32],
     kept: &'a [u32],
 ) -> Failing
-    requires { ⌜ Members (words (now pre)) (now taken) ⌝ }
+    requires { ⌜ Members (excused (now table) (words (now pre))) (now taken) ⌝ }
     ensures { λ r. ⌜ r ≡ failingOf (failing (clearAt (now (table .entry)) (now (users .entry)) (words (now (pre .entry))) e again (now (state .entry)) (now (places .entry)) (now (kept .entry))) (words (now (post .entry)))) ⌝ }
 {
     let mut i: usize = 0;
@@ -211,7 +211,20 @@ fn first_meeting<'a>(
     Failing::Nothing
 }
 
-// The first postcondition of event e that stops a step: its preconditions are marked once, so that none is looked up in their list.
+// The preconditions that excuse from contact: all, or none where the table has the old rule.
+fn excusing<'a>(table: &'a [u8], pre: &'a [u8]) -> &'a [u8]
+    requires { ⌜ Listed (now pre) ⌝ }
+    ensures read { λ r. ⌜ words (now r) ≡ excused (now (table .entry)) (words (now (pre .entry))) ⌝ }
+    ensures listed { λ r. ⌜ Listed (now r) ⌝ }
+{
+    if records::old_rule(table) {
+        return &pre[..0];
+    }
+    pre
+}
+
+// The first postcondition of event e that stops a step: the preconditions that excuse are marked once, so that none is looked up in their
+// list.
 fn first_contact<'a>(
     table: &'a [u8],
     users: &'a [u32],
@@ -226,7 +239,7 @@ fn first_contact<'a>(
     requires { ⌜ Listed (now pre) ⌝ }
     ensures { λ r. ⌜ r ≡ failingOf (failing (clearAt (now (table .entry)) (now (users .entry)) (words (now (pre .entry))) e again (now (state .entry)) (now (places .entry)) (now (kept .entry))) (words (now (post .entry)))) ⌝ }
 {
-    let taken = tally::members(pre);
+    let taken = tally::members(excusing(table, pre));
     first_meeting(
         table,
         users,

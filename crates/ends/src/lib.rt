@@ -24,7 +24,7 @@ fn write_marking<'a>(
     ensures answer { λ r. ⌜ r ≡ fitting (basic (netOf (now (table .entry))) .conditions) (length (now (out .entry))) ⌝ }
     ensures after { λ r. ⌜ now (out .exit) ≡ written r (copiesOf (netOf (now (table .entry))) (marking (now (state .entry))) (marking (now (seen .entry)))) (now (out .entry)) ⌝ }
 {
-    let count = tally::number(bases, words::word(table, 0) as usize) as usize;
+    let count = tally::number(bases, records::conditions(table) as usize) as usize;
     if out.len() < count {
         return refusal::refused(16, count);
     }

@@ -9,7 +9,7 @@ ghost use lib.ListN.{length};
 ghost use Rattle.elements.specs.Needs.{Ready};
 
 // The most bytes that a table has.
-const MOST_BYTES: usize = 264968;
+const MOST_BYTES: usize = 264973;
 
 // So many bytes of text leave room for one more element.
 const MOST_GATHERED: usize = 65280;
@@ -91,7 +91,7 @@ fn export(table: &[u8]) {
 }
 
 fn main() {
-    let mut net = [0u8; 264969];
+    let mut net = [0u8; 264974];
     let n = files::read_file(b"net.bin", &mut net);
     export(&net[..n]);
 }

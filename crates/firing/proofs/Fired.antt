@@ -15,8 +15,11 @@ use Rattle.model.specs.Across.{ofUnfolding}
 use Rattle.model.specs.Numbering.{conditionCount}
 use Rattle.model.proofs.Unfolded.{in-pre, in-post}
 use Rattle.model.proofs.Counts.{count-conditions}
+use Rattle.table.specs.Decoded.{netOf}
 use Rattle.table.specs.Links.{refusedOr}
 use Rattle.tally.specs.Having.{listOf}
+use Rattle.tally.proofs.Events.{judged}
+use Rattle.segments.specs.Ranges.{Owned}
 use Rattle.model.specs.Lent.{bit, bytes, marking}
 use Rattle.model.proofs.Lent.{bytes-are}
 use Rattle.refusal.specs.declared.Judged.the-variants.{Fine}
@@ -29,12 +32,12 @@ use Rattle.unfolded_step.specs.declared.Cause.{Cause}
 use Rattle.unfolded_step.specs.declared.Step.{Step}
 use Rattle.unfolded_step.specs.declared.Step.the-variants.{Goes, Stops}
 use Rattle.unfolded_step.specs.Steps.{stepOf, answeredOf}
-use Rattle.walking.specs.Steps.{stops}
+use Rattle.walking.specs.Steps.{stops, Summed}
 
 -- ---- the unfolded net
 
 module _ (n : Net) (j : ℕ) where
-  stops-basic : (m : Marking) → ltb j (basic n .events) ≡ true → stops m (basic n .preconditions j) (basic n .postconditions j) ≡ stopping (basic n) m j
+  stops-basic : (m : Marking) → ltb j (basic n .events) ≡ true → stops m (basic n .preconditions j) (basic n .postconditions j) (basic n .old) ≡ stopping (basic n) m j
   unfolding stopping lacking contact free basic
   stops-basic m low = rw low
 
@@ -62,13 +65,13 @@ module _ (n : Net) (j : ℕ) where
       ∙ fired-at (mem i post) (mem i pre) (marking l i))
 
   module _ (l pre post : List ℕ) (low : ltb j (basic n .events) ≡ true) (ip : pre ≡ basic n .preconditions j) (iq : post ≡ basic n .postconditions j) where
-    same : stops (marking l) pre post ≡ stopping (basic n) (marking l) j
+    same : stops (marking l) pre post (basic n .old) ≡ stopping (basic n) (marking l) j
     same = rw (ip, iq) (stops-basic (marking l) low)
 
-    pub step-told : (r : Step) → r ≡ stepOf (stops (marking l) pre post) → r ≡ stepOf (stopping (basic n) (marking l) j)
+    pub step-told : (r : Step) → r ≡ stepOf (stops (marking l) pre post (basic n .old)) → r ≡ stepOf (stopping (basic n) (marking l) j)
     step-told r told = told ∙ ap stepOf same
 
-    pub step-after : Lent l → (c : ℕ) → length l ≡ c → (new : List ℕ) → new ≡ stepped (stops (marking l) pre post) (setAll [] 1 post (setAll [] 0 pre l)) l
+    pub step-after : Lent l → (c : ℕ) → length l ≡ c → (new : List ℕ) → new ≡ stepped (stops (marking l) pre post (basic n .old)) (setAll [] 1 post (setAll [] 0 pre l)) l
         → new ≡ stepped (stopping (basic n) (marking l) j) (bytes c (fire (basic n) (marking l) j)) l
     step-after lent c long new told =
         let written : setAll [] 1 post (setAll [] 0 pre l) ≡ bytes c (fire (basic n) (marking l) j)
@@ -78,16 +81,16 @@ module _ (n : Net) (j : ℕ) where
 
 -- ---- a step over lists
 
-module _ (l pre post : List ℕ) (r : Step) (told : r ≡ stepOf (stops (marking l) pre post)) where
-  pub over-kept : (x : Cause) → r ≡ Stops x → l ≡ stepped (stops (marking l) pre post) (setAll [] 1 post (setAll [] 0 pre l)) l
-  over-kept x h = go (stops (marking l) pre post) (sym told ∙ h)
+module _ (l pre post : List ℕ) (old : ℕ → Bool) (r : Step) (told : r ≡ stepOf (stops (marking l) pre post old)) where
+  pub over-kept : (x : Cause) → r ≡ Stops x → l ≡ stepped (stops (marking l) pre post old) (setAll [] 1 post (setAll [] 0 pre l)) l
+  over-kept x h = go (stops (marking l) pre post old) (sym told ∙ h)
     where
       go : (o : Option Stop) → stepOf o ≡ Stops x → l ≡ stepped o (setAll [] 1 post (setAll [] 0 pre l)) l
       go none e = absurd (let z : _≡_ {A = ℕ} 0 1 = cc in omega arith)
       go (some v) e = refl
 
-  pub over-written : r ≡ Goes → setAll [] 1 post (setAll [] 0 pre l) ≡ stepped (stops (marking l) pre post) (setAll [] 1 post (setAll [] 0 pre l)) l
-  over-written h = go (stops (marking l) pre post) (sym told ∙ h)
+  pub over-written : r ≡ Goes → setAll [] 1 post (setAll [] 0 pre l) ≡ stepped (stops (marking l) pre post old) (setAll [] 1 post (setAll [] 0 pre l)) l
+  over-written h = go (stops (marking l) pre post old) (sym told ∙ h)
     where
       go : (o : Option Stop) → stepOf o ≡ Goes → setAll [] 1 post (setAll [] 0 pre l) ≡ stepped o (setAll [] 1 post (setAll [] 0 pre l)) l
       go none e = refl
@@ -95,9 +98,13 @@ module _ (l pre post : List ℕ) (r : Step) (told : r ≡ stepOf (stops (marking
 
 -- ---- the numbers of its lists
 
-pub all-conditions : (n : Net) → basic n .conditions ≡ conditionCount n
+all-conditions : (n : Net) → basic n .conditions ≡ conditionCount n
 unfolding basic
 all-conditions n = count-conditions n
+
+pub summed : {s ms us bs : List ℕ} {e at weight rest : ℕ} → Owned s ms us bs e at weight rest → Summed s bs
+summed {s} {ms} {us} {bs} {e} o =
+    record { judged = judged s e (o .event); sums = o .laid .sums; few = omega (arith, all-conditions (netOf s), o .laid .few-conditions) }
 
 pub list-inside : (n : Net) (j : ℕ) (post : Bool) (b : ℕ) → T (mem b (listOf (basic n) post j)) → b < basic n .conditions
 unfolding basic

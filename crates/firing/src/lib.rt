@@ -6,7 +6,7 @@ use unfolded_step::Step;
 use unfolding::Found;
 ghost use mathlib.Core.Path.{_≡_};
 ghost use mathlib.Core.List.{[]};
-ghost use Prim.Native.Nat.{_+_, _≤_};
+ghost use Prim.Native.Nat.{_+_};
 ghost use lib.ListN.{length};
 ghost use Rattle.lists.specs.Lists.{sum};
 ghost use Rattle.model.specs.Net.{fire, stopping};
@@ -18,12 +18,14 @@ ghost use Rattle.segments.specs.Ranges.{ranged, Owned};
 ghost use Rattle.step.specs.Lent.{Lent};
 ghost use Rattle.step.specs.Steps.{setAll, stepped};
 ghost use Rattle.unfolded_step.specs.Steps.{stepOf};
-ghost use Rattle.walking.specs.Steps.{stops, Below};
+ghost use Rattle.walking.specs.Steps.{stops, Summed, Below};
 ghost use Rattle.firing.specs.Calls.{unfoldedFireOf, unfoldedFiredOf};
 ghost use Rattle.firing.specs.Steps.{Lending};
 
 // A step over the ranges of what is taken and of what is put: tested, then what is taken cleared and what is put set.
 fn step_over<'a>(
+    table: &'a [u8],
+    bases: &'a [u32],
     starts: &'a [u32],
     sizes: &'a [u32],
     taken: usize,
@@ -32,13 +34,24 @@ fn step_over<'a>(
     put: usize,
     state: &mut [u8],
 ) -> Step
+    requires { ⌜ Summed (now table) (now bases) ⌝ }
+    requires { ⌜ length (now state) ≡ basic (netOf (now table)) .conditions ⌝ }
     requires { ⌜ Below (now starts) (now sizes) taken (length (now state)) ⌝ }
     requires { ⌜ Below (now firsts) (now widths) put (length (now state)) ⌝ }
-    requires { ⌜ length (now state) ≤ 65535 ⌝ }
-    ensures answer { λ r. ⌜ r ≡ stepOf (stops (marking (now (state .entry))) (ranged (now (starts .entry)) (now (sizes .entry)) taken) (ranged (now (firsts .entry)) (now (widths .entry)) put)) ⌝ }
-    ensures after { λ _. ⌜ now (state .exit) ≡ stepped (stops (marking (now (state .entry))) (ranged (now (starts .entry)) (now (sizes .entry)) taken) (ranged (now (firsts .entry)) (now (widths .entry)) put)) (setAll [] 1 (ranged (now (firsts .entry)) (now (widths .entry)) put) (setAll [] 0 (ranged (now (starts .entry)) (now (sizes .entry)) taken) (now (state .entry)))) (now (state .entry)) ⌝ }
+    ensures answer { λ r. ⌜ r ≡ stepOf (stops (marking (now (state .entry))) (ranged (now (starts .entry)) (now (sizes .entry)) taken) (ranged (now (firsts .entry)) (now (widths .entry)) put) (basic (netOf (now (table .entry))) .old)) ⌝ }
+    ensures after { λ _. ⌜ now (state .exit) ≡ stepped (stops (marking (now (state .entry))) (ranged (now (starts .entry)) (now (sizes .entry)) taken) (ranged (now (firsts .entry)) (now (widths .entry)) put) (basic (netOf (now (table .entry))) .old)) (setAll [] 1 (ranged (now (firsts .entry)) (now (widths .entry)) put) (setAll [] 0 (ranged (now (starts .entry)) (now (sizes .entry)) taken) (now (state .entry)))) (now (state .entry)) ⌝ }
 {
-    let answer = walking::test(&state[..], starts, sizes, taken, firsts, widths, put);
+    let answer = walking::test(
+        table,
+        bases,
+        &state[..],
+        starts,
+        sizes,
+        taken,
+        firsts,
+        widths,
+        put,
+    );
     let Step::Goes = answer else {
         return answer;
     };
@@ -85,7 +98,17 @@ fn step_at<'a>(
         &mut firsts,
         &mut widths,
     );
-    step_over(&starts, &sizes, taken, &firsts, &widths, put, state)
+    step_over(
+        table,
+        bases,
+        &starts,
+        &sizes,
+        taken,
+        &firsts,
+        &widths,
+        put,
+        state,
+    )
 }
 
 // A table laid out and a lent unfolded marking of it judged; fine: the number of the table's events.
@@ -103,7 +126,7 @@ fn lend<'a>(
     let Judged::Fine(_) = r else {
         return r;
     };
-    let count = tally::number(&bases[..], words::word(table, 0) as usize) as usize;
+    let count = tally::number(&bases[..], records::conditions(table) as usize) as usize;
     if state.len() != count {
         return refusal::refused(18, count);
     }

@@ -1,5 +1,5 @@
-// Judges net A's table and a damaged one for each of the refusals 1 to 9, as docs/REFUSALS.md lists them, a line for each; run by
-// the gate.
+// Judges net A's table and a damaged one for each of the refusals 1 to 9, as docs/REFUSALS.md lists them, then tables with a Rule
+// record, a line for each; run by the gate.
 use libc::STDOUT_FILENO;
 use refusal::Judged;
 ghost use Prim.Native.Nat.{_<_};
@@ -95,6 +95,16 @@ fn longer() {
     );
 }
 
+// A Rule record before one ordinary condition, and cut short, of length 2, with byte 2, twice, and after the Conditions record.
+fn ruled() {
+    verdict(b"\x01\x00\x06\x00\x01\x01\x00\x01\x00\x00\x00\x00\x03\x00");
+    verdict(b"\x01\x00\x06\x00");
+    verdict(b"\x02\x00\x06\x00\x01\x00\x01\x00\x01\x00\x00\x00\x00\x03\x00");
+    verdict(b"\x01\x00\x06\x00\x02\x01\x00\x01\x00\x00\x00\x00\x03\x00");
+    verdict(b"\x01\x00\x06\x00\x01\x01\x00\x06\x00\x01\x01\x00\x01\x00\x00\x00\x00\x03\x00");
+    verdict(b"\x01\x00\x01\x00\x00\x01\x00\x06\x00\x01\x00\x00\x03\x00");
+}
+
 fn main() {
     cut();
     changed(10, 7);
@@ -107,4 +117,5 @@ fn main() {
     untouched();
     greedy();
     longer();
+    ruled();
 }

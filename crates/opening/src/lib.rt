@@ -78,7 +78,7 @@ pub fn open_files<'a>(
     let Judged::Fine(events) = judged else {
         return refused(judged);
     };
-    let conditions = words::word(net, 0) as usize;
+    let conditions = records::conditions(net) as usize;
     Opened {
         answer: Judged::Fine(count),
         events,

@@ -1,4 +1,4 @@
-// Plays nets A, B and E and writes each answer and what it left in lent memory; run by the gate.
+// Plays nets A, B and E, and B under the old rule, and writes each answer and what it left in lent memory; run by the gate.
 use libc::STDOUT_FILENO;
 use refusal::By;
 use refusal::Judged;
@@ -136,6 +136,19 @@ fn net_b() {
     replays(&table, &[1u16]);
 }
 
+// Net B after a Rule record: under the old rule event 0, which takes condition 0 and puts it, is in contact.
+fn net_b_old() {
+    let table =
+        *b"\x01\x00\x06\x00\x01\x02\x00\x01\x00\x00\x01\x0a\x00\x02\x00\x01\x00\x02\x00\x00\x00\x00\x00\x01\x00\x06\x00\x02\x00\x01\x00\x00\x00\x01\x00\x02\x00\x03\x00\x00\x00";
+    let mut kept: [u8; 2] = [1, 0];
+    fires(&table, &mut kept, 0);
+    show([kept[0], kept[1], 9, 9]);
+    let mut fired: [u8; 2] = [1, 1];
+    fires(&table, &mut fired, 1);
+    show([fired[0], fired[1], 9, 9]);
+    replays(&table, &[0u16, 0]);
+}
+
 // Net E: conditions 0, 1, [2]; 0: {0} to {2}, 1: {1} to {2}, 2: {2} to {}; start {0,1}, then {0,1,2}.
 fn net_e() {
     let table =
@@ -152,5 +165,6 @@ fn net_e() {
 fn main() {
     net_a();
     net_b();
+    net_b_old();
     net_e();
 }

@@ -22,7 +22,7 @@ fn fire_at(table: &[u8], at: usize, state: &mut [u8])
     requires { ⌜ Fires (now table) at (now state) ⌝ }
     ensures { λ _. ⌜ now (state .exit) ≡ bytes (length (now (state .entry))) (fire (recordNet (now (table .entry)) at) (marking (now (state .entry))) 0) ⌝ }
 {
-    let flags = records::part_of(table, 4, words::word(table, 0) as usize);
+    let flags = records::flags(table);
     step::set_all(flags, records::pre_at(table, at), 0, state);
     step::set_all(&table[..0], records::post_at(table, at), 1, state);
 }

@@ -29,8 +29,9 @@ use Rattle.game.specs.Calls.{onMarking}
 use Rattle.played.specs.Begun.{begunAt}
 use Rattle.across.specs.Prepared.{preparedOf}
 use Rattle.promises.specs.Refused.{ofTable, ofLent, ofStep, ofSteps, ofUnfolding, listed, Refusing}
-use Rattle.promises.proofs.Refused.{listed-need, listed-or, conditions-listed, event-listed, marking-listed, judged-listed, lent-listed, stuck-listed, long-listed, unfolding-listed, unfolding-of-listed, listed-fitting}
+use Rattle.promises.proofs.Refused.{listed-need, listed-or, rule-listed, conditions-listed, event-listed, marking-listed, judged-listed, lent-listed, stuck-listed, long-listed, unfolding-listed, unfolding-of-listed, listed-fitting}
 use Rattle.promises.proofs.Kept.{late-refused}
+use Rattle.rules.proofs.rule_record.Reads as rule-record
 use Rattle.rules.proofs.conditions_record.Reads as conditions-record
 use Rattle.event_rules.proofs.event_record.Reads as event-record
 use Rattle.rules.proofs.marking_record.Reads as marking-record
@@ -49,8 +50,11 @@ use Rattle.project.proofs.replay_lifted.Reads as replay-lifted
 
 -- ---- records
 
+pub rule-record-refused : (κs : _) (a : _) (r : _) (x : _) → rule-record.Learnt κs a r x → T (listed ofTable r)
+rule-record-refused κs a r x h = rw h (rule-listed (now (a .0)))
+
 pub conditions-record-refused : (κs : _) (a : _) (r : _) (x : _) → conditions-record.Learnt κs a r x → T (listed ofTable r)
-conditions-record-refused κs a r x h = rw h (conditions-listed (now (a .0)))
+conditions-record-refused κs a r x h = rw h (conditions-listed (now (a .0)) (a .1 .0))
 
 pub event-record-refused : (κs : _) (a : _) (r : _) (x : _) → event-record.Learnt κs a r x → T (listed ofTable r)
 event-record-refused κs a r x h = rw h (event-listed (now (a .0)) (a .1 .0))

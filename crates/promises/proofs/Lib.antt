@@ -3,6 +3,7 @@ pub mod Before
 pub mod Former
 pub mod Stopped
 pub mod Named
+pub mod Ruled
 pub mod Game
 pub mod Across
 pub mod Told

@@ -31,6 +31,11 @@ use Rattle.words.proofs.all_bits.Reads as all-bits
 use Rattle.words.proofs.count_in.Reads as count-in
 use Rattle.records.proofs.shown.Reads as shown
 use Rattle.records.proofs.header_at.Reads as header-at
+use Rattle.records.proofs.old_rule.Reads as old-rule
+use Rattle.records.proofs.front.Reads as front
+use Rattle.records.proofs.conditions.Reads as conditions
+use Rattle.records.proofs.flags.Reads as flags
+use Rattle.rules.proofs.rule_record.Reads as rule-record
 use Rattle.rules.proofs.conditions_record.Reads as conditions-record
 use Rattle.event_rules.proofs.event_record.Reads as event-record
 use Rattle.rules.proofs.marking_record.Reads as marking-record
@@ -148,6 +153,21 @@ shown-one κs a r q x y h g = same-part h g
 
 pub header-at-one : (κs : _) (a : _) (r q : _) (x y : _) → header-at.Learnt κs a r x → header-at.Learnt κs a q y → r ≡ q
 header-at-one κs a r q x y h g = h ∙ sym g
+
+pub old-rule-one : (κs : _) (a : _) (r q : _) (x y : _) → old-rule.Learnt κs a r x → old-rule.Learnt κs a q y → r ≡ q
+old-rule-one κs a r q x y h g = h ∙ sym g
+
+pub front-one : (κs : _) (a : _) (r q : _) (x y : _) → front.Learnt κs a r x → front.Learnt κs a q y → r ≡ q
+front-one κs a r q x y h g = h ∙ sym g
+
+pub conditions-one : (κs : _) (a : _) (r q : _) (x y : _) → conditions.Learnt κs a r x → conditions.Learnt κs a q y → r ≡ q
+conditions-one κs a r q x y h g = h ∙ sym g
+
+pub flags-one : (κs : _) (a : _) (r q : _) (x y : _) → flags.Learnt κs a r x → flags.Learnt κs a q y → now r ≡ now q
+flags-one κs a r q x y h g = h ∙ sym g
+
+pub rule-record-one : (κs : _) (a : _) (r q : _) (x y : _) → rule-record.Learnt κs a r x → rule-record.Learnt κs a q y → r ≡ q
+rule-record-one κs a r q x y h g = h ∙ sym g
 
 pub conditions-record-one : (κs : _) (a : _) (r q : _) (x y : _) → conditions-record.Learnt κs a r x → conditions-record.Learnt κs a q y → r ≡ q
 conditions-record-one κs a r q x y h g = h ∙ sym g

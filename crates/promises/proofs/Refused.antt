@@ -5,7 +5,7 @@ use mathlib.Core.Option.{Option, none, some}
 use mathlib.Core.List.{List, _∷_}
 use Prim.Native.Nat.{ℕ, zero, suc, _+_, _*_, _/_, _%_}
 use lib.Dec.{T, leb, ltb, eqb}
-use lib.ListN.{length}
+use lib.ListN.{length, getD}
 use Rattle.lists.specs.Lists.{mem, all, fits}
 use Rattle.lists.proofs.Bools.{and-left, and-right, and-both, or-right}
 use Rattle.lists.proofs.Tests.{all-at, all-of}
@@ -23,8 +23,8 @@ use Rattle.refusal.specs.Answer.{refusedAt, need, andThen, fitting}
 use Rattle.words.specs.Words.{words, bits, countIn}
 use Rattle.records.specs.declared.Header.{Header}
 use Rattle.records.specs.declared.Header.the-variants.{Short, Whole}
-use Rattle.records.specs.Records.{part, headerOf, whenWhole, conditions, flags, preCount, postCount, prePart, postPart}
-use Rattle.rules.specs.Rules.{conditionsOf, markingOf}
+use Rattle.records.specs.Records.{part, headerOf, whenWhole, ruled, front, conditions, flags, preCount, postCount, prePart, postPart}
+use Rattle.rules.specs.Rules.{ruleOf, conditionsOf, markingOf}
 use Rattle.event_rules.specs.EventRules.{listsOf, eventOf}
 use Rattle.table.specs.Walk.{kindIs, lastOf, eventsFrom, judgeOf, offsetOf}
 use Rattle.table.specs.Decoded.{netOf}
@@ -98,14 +98,21 @@ zero-listed l (Refused x) e h = rw e (or-right (eqb (x .number) 0) (mem (x .numb
 
 -- ---- a table
 
-pub conditions-listed : (s : List ℕ) → T (listed ofTable (conditionsOf s))
+pub rule-listed : (s : List ℕ) → T (listed ofTable (ruleOf s))
+unfolding ruleOf
+rule-listed s =
+    listed-cond ofTable (ruled s) _ (Fine 0)
+    (listed-whole ofTable (headerOf s 0) 0 _ tt (λ kind len.
+    listed-need ofTable (eqb len 1) 3 0 _ tt (listed-need ofTable (leb (getD s 4 0) 1) 4 0 _ tt tt))) tt
+
+pub conditions-listed : (s : List ℕ) (at : ℕ) → T (listed ofTable (conditionsOf s at))
 unfolding conditionsOf
-conditions-listed s =
-    listed-whole ofTable (headerOf s 0) 0 _ tt (λ kind len.
-    listed-need ofTable (eqb kind 1) 2 0 _ tt
-    (listed-need ofTable (leb 1 len) 3 0 _ tt
-    (listed-need ofTable (leb len 256) 3 0 _ tt
-    (listed-need ofTable (bits (part s 4 len)) 4 0 _ tt tt))))
+conditions-listed s at =
+    listed-whole ofTable (headerOf s at) at _ tt (λ kind len.
+    listed-need ofTable (eqb kind 1) 2 at _ tt
+    (listed-need ofTable (leb 1 len) 3 at _ tt
+    (listed-need ofTable (leb len 256) 3 at _ tt
+    (listed-need ofTable (bits (part s (at + 4) len)) 4 at _ tt tt))))
 
 lists-listed : (s : List ℕ) (at next : ℕ) → T (listed ofTable (listsOf s at next))
 unfolding listsOf
@@ -144,7 +151,9 @@ events-listed (suc left) s at =
 
 pub judge-listed : (s : List ℕ) → T (listed ofTable (judgeOf s))
 unfolding judgeOf
-judge-listed s = listed-then ofTable (conditionsOf s) (eventsFrom 256 s) (conditions-listed s) (λ v. events-listed 256 s v)
+judge-listed s =
+    listed-then ofTable (ruleOf s) _ (rule-listed s)
+    (λ at. listed-then ofTable (conditionsOf s at) (eventsFrom 256 s) (conditions-listed s at) (λ v. events-listed 256 s v))
 
 -- whatever follows a judged table
 pub judged-listed : (l s : List ℕ) (f : ℕ → Judged) → T (all (λ x. mem x l) ofTable) → ((n : ℕ) → T (listed l (f n))) → T (listed l (andThen (judgeOf s) f))
@@ -371,8 +380,9 @@ start-listed s room = judged-listed ofTableStart s _ tt (λ n. listed-fitting of
 pub record-listed : (s : List ℕ) (at : ℕ) → T (listed ofTable (recordOf s at))
 unfolding recordOf
 record-listed s at =
-    listed-cond ofTable (eqb at 0) (conditionsOf s) _ (conditions-listed s)
-    (listed-cond ofTable (kindIs 2 (headerOf s at)) _ (markingOf s at) (listed-need ofTable (ltb at (offsetOf s 256)) 6 at (eventOf s at) tt (event-listed s at)) (marking-listed s at))
+    listed-cond ofTable (eqb at (front s)) (conditionsOf s at) _ (conditions-listed s at)
+    (listed-cond ofTable (eqb at 0) (ruleOf s) _ (rule-listed s)
+    (listed-cond ofTable (kindIs 2 (headerOf s at)) _ (markingOf s at) (listed-need ofTable (ltb at (offsetOf s 256)) 6 at (eventOf s at) tt (event-listed s at)) (marking-listed s at)))
 
 -- ---- the listing
 

@@ -166,9 +166,9 @@ module _ (f l bs xs : List ℕ) (old : Bool) where
   unfolding marking
   meets-old x is e = is ∙ ap met (fun-ext (λ b. rw e (sym (and-false (mem b bs)))))
 
-  pub meets-new : (x : Failing) (t : List ℕ) (c : ℕ) → x ≡ met (marking t) → length l ≤ c → t ≡ setAll [] 1 bs (replicate c 0) → old ≡ false
+  pub meets-taken : (x : Failing) (t : List ℕ) (c : ℕ) → x ≡ met (marking t) → length l ≤ c → t ≡ setAll [] 1 bs (replicate c 0) → old ≡ false
       → x ≡ met (λ b. mem b bs && not old)
-  meets-new x t c is h put e =
+  meets-taken x t c is h put e =
       is ∙ ap (λ (g : ℕ → Bool). failingOf (failing g xs)) (marked-clear f l bs t c h put) ∙ ap met (fun-ext (λ b. rw e (sym (and-true (mem b bs)))))
 
 -- ---- the firing

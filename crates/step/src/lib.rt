@@ -102,7 +102,13 @@ fn first_contact<'a>(flags: &'a [u8], state: &'a [u8], taken: &'a [u8], list: &'
 
 // The first postcondition that makes contact: where one would if nothing were taken, and the rule is not the old one, by which taking
 // excuses none, the preconditions are marked once, so that none is looked up in their list.
-fn contact<'a>(flags: &'a [u8], state: &'a [u8], pre: &'a [u8], post: &'a [u8], old: bool) -> Failing
+fn contact<'a>(
+    flags: &'a [u8],
+    state: &'a [u8],
+    pre: &'a [u8],
+    post: &'a [u8],
+    old: bool,
+) -> Failing
     requires { ⌜ length (now state) ≤ 256 ⌝ }
     ensures { λ r. ⌜ r ≡ failingOf (failing (clearOf (now (flags .entry)) (marking (now (state .entry))) (λ b. mem b (words (now (pre .entry))) && not old)) (words (now (post .entry)))) ⌝ }
 {

@@ -1,2 +1,3 @@
 pub mod Ranging
+pub mod Rules
 pub mod Tested

@@ -1,6 +1,6 @@
 -- What the test of an event finds: the first condition that it lacks, else the first in contact.
 use mathlib.Core.Path.{_≡_, refl, sym, _∙_, ap}
-use mathlib.Core.Bool.{true, false}
+use mathlib.Core.Bool.{Bool, true, false}
 use mathlib.Core.Option.{Option, none, some}
 use mathlib.Core.List.{List}
 use Prim.Native.Nat.{ℕ}
@@ -29,13 +29,13 @@ found-nothing none none d e = refl
 found-nothing none (some x) d e = absurd (let z : _≡_ {A = ℕ} 0 1 = cc in omega arith)
 found-nothing (some x) p d e = absurd (let z : _≡_ {A = ℕ} 0 1 = cc in omega arith)
 
-module _ (m : Marking) (pre post : List ℕ) (x : Failing) (isX : x ≡ failingOf (failing (passesOf false m pre) pre)) where
-  pub test-lacks : (b : UnfoldedCondition) → x ≡ At b → Stops (Lacks b) ≡ stepOf (stops m pre post)
-  test-lacks b e = found-lacks (failing (passesOf false m pre) pre) (failing (passesOf true m pre) post) b (sym isX ∙ e)
+module _ (m : Marking) (pre post : List ℕ) (old : ℕ → Bool) (x : Failing) (isX : x ≡ failingOf (failing (passesOf false m pre old) pre)) where
+  pub test-lacks : (b : UnfoldedCondition) → x ≡ At b → Stops (Lacks b) ≡ stepOf (stops m pre post old)
+  test-lacks b e = found-lacks (failing (passesOf false m pre old) pre) (failing (passesOf true m pre old) post) b (sym isX ∙ e)
 
-  module _ (none-lacks : x ≡ Nothing) (y : Failing) (isY : y ≡ failingOf (failing (passesOf true m pre) post)) where
-    pub test-meets : (b : UnfoldedCondition) → y ≡ At b → Stops (Meets b) ≡ stepOf (stops m pre post)
-    test-meets b e = found-meets (failing (passesOf false m pre) pre) (failing (passesOf true m pre) post) b (sym isX ∙ none-lacks) (sym isY ∙ e)
+  module _ (none-lacks : x ≡ Nothing) (y : Failing) (isY : y ≡ failingOf (failing (passesOf true m pre old) post)) where
+    pub test-meets : (b : UnfoldedCondition) → y ≡ At b → Stops (Meets b) ≡ stepOf (stops m pre post old)
+    test-meets b e = found-meets (failing (passesOf false m pre old) pre) (failing (passesOf true m pre old) post) b (sym isX ∙ none-lacks) (sym isY ∙ e)
 
-    pub test-goes : y ≡ Nothing → Goes ≡ stepOf (stops m pre post)
-    test-goes e = found-nothing (failing (passesOf false m pre) pre) (failing (passesOf true m pre) post) (sym isX ∙ none-lacks) (sym isY ∙ e)
+    pub test-goes : y ≡ Nothing → Goes ≡ stepOf (stops m pre post old)
+    test-goes e = found-nothing (failing (passesOf false m pre old) pre) (failing (passesOf true m pre old) post) (sym isX ∙ none-lacks) (sym isY ∙ e)

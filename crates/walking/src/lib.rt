@@ -4,14 +4,16 @@ use unfolded_step::Cause;
 use unfolded_step::Step;
 ghost use mathlib.Core.Path.{_≡_};
 ghost use mathlib.Core.List.{[]};
-ghost use Prim.Native.Nat.{_≤_};
+ghost use Prim.Native.Nat.{_≤_, _<_};
 ghost use lib.ListN.{length};
 ghost use Rattle.lists.specs.Lists.{mem, failing, count};
+ghost use Rattle.model.specs.Unfolding.{basic};
 ghost use Rattle.model.specs.Lent.{marking};
+ghost use Rattle.table.specs.Decoded.{netOf};
 ghost use Rattle.segments.specs.Ranges.{ranged};
 ghost use Rattle.step.specs.Steps.{setAll};
 ghost use Rattle.unfolded_step.specs.Steps.{stepOf};
-ghost use Rattle.walking.specs.Steps.{passesOf, failingOf, stops, Kept, Below, BelowIn};
+ghost use Rattle.walking.specs.Steps.{passesOf, failingOf, stops, Summed, Kept, Below, BelowIn};
 
 // The first unfolded condition of a list that fails its test.
 pub enum Failing {
@@ -51,8 +53,24 @@ fn in_ranges<'a>(starts: &'a [u32], sizes: &'a [u32], ranges: usize, k: u32) -> 
     false
 }
 
-// Whether an unfolded condition passes: it holds, or where contact is looked for it does not hold or is one of the taken.
+// Whether an unfolded condition follows the old rule: its table asks for it, and its condition is ordinary.
+fn follows_old<'a>(table: &'a [u8], bases: &'a [u32], k: u32) -> bool
+    requires { ⌜ Summed (now table) (now bases) ⌝ }
+    requires { ⌜ k < basic (netOf (now table)) .conditions ⌝ }
+    ensures { λ r. ⌜ r ≡ basic (netOf (now (table .entry))) .old k ⌝ }
+{
+    if records::old_rule(table) {
+        let count = records::conditions(table) as usize;
+        let b = conditions::owner(table, bases, count, k);
+        return !colours::is_persistent(table, b);
+    }
+    false
+}
+
+// Whether an unfolded condition passes: it holds, or where contact is looked for it does not hold, or is taken and not under the old rule.
 fn passes<'a>(
+    table: &'a [u8],
+    bases: &'a [u32],
     contact: bool,
     state: &'a [u8],
     starts: &'a [u32],
@@ -60,13 +78,17 @@ fn passes<'a>(
     ranges: usize,
     k: u32,
 ) -> bool
-    requires { ⌜ Kept (now starts) (now sizes) ranges ⌝ }
-    ensures { λ r. ⌜ r ≡ passesOf contact (marking (now (state .entry))) (ranged (now (starts .entry)) (now (sizes .entry)) ranges) k ⌝ }
+    requires { ⌜ Summed (now table) (now bases) ⌝ }
+    requires { ⌜ Below (now starts) (now sizes) ranges (basic (netOf (now table)) .conditions) ⌝ }
+    ensures { λ r. ⌜ r ≡ passesOf contact (marking (now (state .entry))) (ranged (now (starts .entry)) (now (sizes .entry)) ranges) (basic (netOf (now (table .entry))) .old) k ⌝ }
 {
     let held = holds(state, k);
     if contact {
         if held {
-            return in_ranges(starts, sizes, ranges, k);
+            if in_ranges(starts, sizes, ranges, k) {
+                return !follows_old(table, bases, k);
+            }
+            return false;
         }
         return true;
     }
@@ -75,6 +97,8 @@ fn passes<'a>(
 
 // The first number of a range that fails.
 fn first_in<'a>(
+    table: &'a [u8],
+    bases: &'a [u32],
     contact: bool,
     state: &'a [u8],
     starts: &'a [u32],
@@ -83,14 +107,15 @@ fn first_in<'a>(
     first: u32,
     size: u32,
 ) -> Failing
-    requires { ⌜ Kept (now starts) (now sizes) ranges ⌝ }
-    requires { ⌜ BelowIn first size 65535 ⌝ }
-    ensures { λ r. ⌜ r ≡ failingOf (failing (passesOf contact (marking (now (state .entry))) (ranged (now (starts .entry)) (now (sizes .entry)) ranges)) (count first size)) ⌝ }
+    requires { ⌜ Summed (now table) (now bases) ⌝ }
+    requires { ⌜ Below (now starts) (now sizes) ranges (basic (netOf (now table)) .conditions) ⌝ }
+    requires { ⌜ BelowIn first size (basic (netOf (now table)) .conditions) ⌝ }
+    ensures { λ r. ⌜ r ≡ failingOf (failing (passesOf contact (marking (now (state .entry))) (ranged (now (starts .entry)) (now (sizes .entry)) ranges) (basic (netOf (now (table .entry))) .old)) (count first size)) ⌝ }
 {
     let mut d: u32 = 0;
     while d < size {
         let k = first + d;
-        if passes(contact, state, starts, sizes, ranges, k) {
+        if passes(table, bases, contact, state, starts, sizes, ranges, k) {
             d = d + 1;
         } else {
             return Failing::At(UnfoldedCondition(k as u16));
@@ -101,6 +126,8 @@ fn first_in<'a>(
 
 // The first number of a list of ranges that fails, the taken ones being ranges too.
 fn first_failing<'a>(
+    table: &'a [u8],
+    bases: &'a [u32],
     contact: bool,
     state: &'a [u8],
     starts: &'a [u32],
@@ -110,13 +137,24 @@ fn first_failing<'a>(
     widths: &'a [u32],
     all: usize,
 ) -> Failing
-    requires { ⌜ Kept (now starts) (now sizes) ranges ⌝ }
-    requires { ⌜ Below (now firsts) (now widths) all 65535 ⌝ }
-    ensures { λ r. ⌜ r ≡ failingOf (failing (passesOf contact (marking (now (state .entry))) (ranged (now (starts .entry)) (now (sizes .entry)) ranges)) (ranged (now (firsts .entry)) (now (widths .entry)) all)) ⌝ }
+    requires { ⌜ Summed (now table) (now bases) ⌝ }
+    requires { ⌜ Below (now starts) (now sizes) ranges (basic (netOf (now table)) .conditions) ⌝ }
+    requires { ⌜ Below (now firsts) (now widths) all (basic (netOf (now table)) .conditions) ⌝ }
+    ensures { λ r. ⌜ r ≡ failingOf (failing (passesOf contact (marking (now (state .entry))) (ranged (now (starts .entry)) (now (sizes .entry)) ranges) (basic (netOf (now (table .entry))) .old)) (ranged (now (firsts .entry)) (now (widths .entry)) all)) ⌝ }
 {
     let mut i: usize = 0;
     while i < all {
-        let found = first_in(contact, state, starts, sizes, ranges, firsts[i], widths[i]);
+        let found = first_in(
+            table,
+            bases,
+            contact,
+            state,
+            starts,
+            sizes,
+            ranges,
+            firsts[i],
+            widths[i],
+        );
         let Failing::Nothing = found else {
             return found;
         };
@@ -127,6 +165,8 @@ fn first_failing<'a>(
 
 // What stops an event with these lists, taken and put, if anything does.
 pub fn test<'a>(
+    table: &'a [u8],
+    bases: &'a [u32],
     state: &'a [u8],
     starts: &'a [u32],
     sizes: &'a [u32],
@@ -135,15 +175,38 @@ pub fn test<'a>(
     widths: &'a [u32],
     all: usize,
 ) -> Step
-    requires { ⌜ Below (now starts) (now sizes) ranges 65535 ⌝ }
-    requires { ⌜ Below (now firsts) (now widths) all 65535 ⌝ }
-    ensures { λ r. ⌜ r ≡ stepOf (stops (marking (now (state .entry))) (ranged (now (starts .entry)) (now (sizes .entry)) ranges) (ranged (now (firsts .entry)) (now (widths .entry)) all)) ⌝ }
+    requires { ⌜ Summed (now table) (now bases) ⌝ }
+    requires { ⌜ Below (now starts) (now sizes) ranges (basic (netOf (now table)) .conditions) ⌝ }
+    requires { ⌜ Below (now firsts) (now widths) all (basic (netOf (now table)) .conditions) ⌝ }
+    ensures { λ r. ⌜ r ≡ stepOf (stops (marking (now (state .entry))) (ranged (now (starts .entry)) (now (sizes .entry)) ranges) (ranged (now (firsts .entry)) (now (widths .entry)) all) (basic (netOf (now (table .entry))) .old)) ⌝ }
 {
-    let lacking = first_failing(false, state, starts, sizes, ranges, starts, sizes, ranges);
+    let lacking = first_failing(
+        table,
+        bases,
+        false,
+        state,
+        starts,
+        sizes,
+        ranges,
+        starts,
+        sizes,
+        ranges,
+    );
     if let Failing::At(b) = lacking {
         return Step::Stops(Cause::Lacks(b));
     }
-    let contact = first_failing(true, state, starts, sizes, ranges, firsts, widths, all);
+    let contact = first_failing(
+        table,
+        bases,
+        true,
+        state,
+        starts,
+        sizes,
+        ranges,
+        firsts,
+        widths,
+        all,
+    );
     if let Failing::At(b) = contact {
         return Step::Stops(Cause::Meets(b));
     }

@@ -43,6 +43,7 @@ pub fn net_a() -> Input {
             event(&[3], &[1]),
         ],
         start: vec![0],
+        rule: None,
     };
     input("net A, 4 steps", &net, vec![0, 1, 2, 1])
 }
@@ -76,6 +77,7 @@ pub fn changeover(size: Size) -> Input {
         persistent: (0..2 * lasting + ring).map(|b| b < lasting).collect(),
         events,
         start: (lasting..2 * lasting).chain([around(0)]).collect(),
+        rule: None,
     };
     let going = (0..ring).cycle().map(|k| lasting + k);
     let run = (0..lasting).chain(going).take(steps).collect();
@@ -112,6 +114,7 @@ pub fn full(events: usize, steps: usize) -> Input {
         persistent: vec![false; 256],
         events: vec![event(&all, &all); events],
         start: all,
+        rule: None,
     };
     let going = (0..=u16::MAX).take(events).cycle();
     let name = format!("256 conditions, {events} events of full lists, {steps} steps");
@@ -152,6 +155,7 @@ pub fn longest_list() -> Input {
         persistent: vec![true; 255],
         events,
         start: Vec::new(),
+        rule: None,
     };
     input("65,281 unfolded events, a list of 2,040", &net, vec![0])
 }

@@ -106,10 +106,20 @@ pub fn bytes_of(path: &str) -> Stopped<Vec<u8>> {
     Ok(bytes)
 }
 
+/// The kinds of record that a table begins with, and the kind that a run is.
+pub const TABLE_KINDS: &[u8] = &[1, 6];
+pub const RUN_KINDS: &[u8] = &[4];
+
+/// A file begins with a record of one of these kinds.
+pub fn begins_with(bytes: &[u8], kinds: &[u8]) -> bool {
+    let kind = bytes.get(2..4);
+    kinds.iter().any(|known| kind == Some(&[*known, 0]))
+}
+
 /// What a file that is no text looks like, by its first bytes.
 pub fn looks_like(bytes: &[u8]) -> Option<&'static str> {
     match bytes {
-        [_, _, 1, 0, ..] => Some("a table of records"),
+        [_, _, 1 | 6, 0, ..] => Some("a table of records"),
         [_, _, 4, 0, ..] => Some("the record of a run"),
         [_, _, 5, 0, ..] => Some("the record of a lifted run"),
         [0xff, 0xfe, ..] | [0xfe, 0xff, ..] => Some("text in UTF-16, which must be saved as UTF-8"),
@@ -117,11 +127,11 @@ pub fn looks_like(bytes: &[u8]) -> Option<&'static str> {
     }
 }
 
-/// What a file looks like that does not begin with a record of a kind; nothing where it does, or looks like nothing known.
-pub fn no_such_record(bytes: &[u8], kind: u8) -> String {
+/// What a file looks like that does not begin with a record of such a kind; nothing where it does, or looks like nothing known.
+pub fn no_such_record(bytes: &[u8], kinds: &[u8]) -> String {
     match looks_like(bytes) {
         _ if bytes.is_empty() => "; the file is empty".to_string(),
-        Some(what) if bytes.get(2..4) != Some(&[kind, 0]) => format!("; it looks like {what}"),
+        Some(what) if !begins_with(bytes, kinds) => format!("; it looks like {what}"),
         _ => String::new(),
     }
 }

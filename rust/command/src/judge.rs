@@ -1,4 +1,4 @@
-//! `dovetrellis judge`: the judge's answer, the counts, and how the runs of a text table fare.
+//! `dovetrellis judge`: the judge's answer, the counts, the rule, and how the runs of a text table fare.
 
 use std::io::Write;
 
@@ -70,6 +70,9 @@ pub fn judge(path: &str, out: &mut impl Write) -> Stopped<()> {
         "accepted: {conditions} and {}",
         counted(counts.events, "event")
     )?;
+    if let Some(rule) = table.rule_told() {
+        writeln!(out, "follows {rule}")?;
+    }
     writeln!(out, "{}", unfolding(&mut library, &table)?)?;
     for index in 0..table.table.runs.len() {
         let run = table.run(index);

@@ -4,7 +4,7 @@ use std::path::Path;
 
 use text::{Place, Table};
 
-use crate::files::{bytes_of, looks_like, meant, near, no_such_record};
+use crate::files::{bytes_of, looks_like, meant, near, no_such_record, TABLE_KINDS};
 use crate::stop::{Stop, Stopped};
 
 /// A table as it is given.
@@ -145,7 +145,7 @@ impl Source {
         let what = match self.is_text {
             true => "has no run, so RUN must be given".to_string(),
             false => {
-                let why = no_such_record(&self.bytes, 1);
+                let why = no_such_record(&self.bytes, TABLE_KINDS);
                 format!("is no text, so no run stands in it and RUN must be given{why}")
             }
         };

@@ -1,9 +1,9 @@
 //! Refusals in words: what the number means, and what the place is in the file that was given.
 
-use text::{Event, Part};
+use text::{Event, Part, PAPER};
 use wire::{Failure, Refusal};
 
-use crate::files::no_such_record;
+use crate::files::{begins_with, no_such_record, RUN_KINDS, TABLE_KINDS};
 use crate::source::{RunSource, Source};
 use crate::stop::{Stop, Told};
 
@@ -21,7 +21,7 @@ pub fn meaning(number: u64) -> &'static str {
         9 => "there are bytes after the last record",
         10 => "there is no such event",
         11 => "a precondition of the event does not hold",
-        12 => "contact: an ordinary postcondition of the event holds already and is not among its preconditions",
+        12 => "contact: an ordinary postcondition of the event holds already and is not among its preconditions, or the table follows the old rule",
         13 => "the event touches nothing once unfolded: it takes nothing and marks only what no event reads",
         14 => "there are over 65535 unfolded conditions or unfolded events",
         15 => "an event comes again that marks a persistent condition which another event uses; the unfolded net has no such run",
@@ -33,13 +33,31 @@ pub fn meaning(number: u64) -> &'static str {
     }
 }
 
+/// The kind of a Rule record.
+const RULE: u8 = 6;
+
+/// What the byte of a Rule record is where it is refused by 4.
+const NO_RULE: &str = "the rule's byte is neither 0, the paper's rule, nor 1, the old rule";
+
+/// What is due instead where a record of the table has the wrong kind (2).
+fn due_kind(bytes: &[u8], offset: usize) -> &'static str {
+    match record_at(bytes, offset) {
+        (_, 0) => "a table begins with its Conditions, kind 1, or with a Rule, kind 6",
+        (_, 1) if is_rule(bytes, 0) => "after the Rule the Conditions, kind 1, are due",
+        _ if is_rule(bytes, offset) => {
+            "a Rule stands first or nowhere; an Event, kind 2, or the Marking, kind 3, is due"
+        }
+        _ => "an Event, kind 2, or the Marking, kind 3, is due",
+    }
+}
+
 /// What is due instead where a record of the table has the wrong kind (2) or length (3).
-fn due_in_table(number: u64, offset: usize, kind: Option<u8>) -> Option<&'static str> {
-    match (number, kind) {
-        (2, _) if offset == 0 => Some("a table begins with its Conditions, kind 1"),
-        (2, _) => Some("an Event, kind 2, or the Marking, kind 3, is due"),
+fn due_in_table(number: u64, bytes: &[u8], offset: usize) -> Option<&'static str> {
+    match (number, record_at(bytes, offset).0) {
+        (2, _) => Some(due_kind(bytes, offset)),
         (3, Some(2)) => Some("an event has 4 bytes and 2 for each condition that it counts"),
         (3, Some(3)) => Some("a marking has 2 bytes for each condition"),
+        (3, Some(RULE)) => Some("a rule is 1 byte"),
         (3, _) => Some("there are 1 to 256 conditions"),
         _ => None,
     }
@@ -53,11 +71,16 @@ pub fn meaning_with(number: u64, more: Option<&str>) -> String {
     }
 }
 
-/// Why a condition stopped a step, by the number of the refusal; the condition is put as it is called.
-pub fn stopped_by(number: u64, condition: &str) -> String {
-    match number {
-        11 => format!("{condition} does not hold, and the event needs it"),
-        _ => format!("{condition} still holds, and the event would set it again: contact"),
+/// Why a condition stopped a step, by the number of the refusal; the condition is put as it is called, and whether it stopped an event
+/// that takes it, as only the old rule has it.
+pub fn stopped_by(number: u64, condition: &str, is_taken: bool) -> String {
+    let contact = format!("{condition} still holds, and the event would set it again: contact");
+    match (number, is_taken) {
+        (11, _) => format!("{condition} does not hold, and the event needs it"),
+        (_, false) => contact,
+        (_, true) => {
+            format!("{contact}; it is a precondition too, but the table follows the old rule")
+        }
     }
 }
 
@@ -92,7 +115,41 @@ fn record_at(bytes: &[u8], offset: usize) -> (Option<u8>, usize) {
     (bytes.get(offset + 2).copied(), before)
 }
 
+/// A Rule record stands at an offset.
+fn is_rule(bytes: &[u8], offset: usize) -> bool {
+    let rest = bytes.get(offset..).unwrap_or_default();
+    begins_with(rest, &[RULE])
+}
+
+/// What the record at an offset of a table is called.
+fn record_called(bytes: &[u8], offset: usize) -> String {
+    let front = usize::from(is_rule(bytes, 0));
+    match record_at(bytes, offset) {
+        (_, 0) if front == 1 => "the Rule record".to_string(),
+        (_, 0) => "the first record".to_string(),
+        (_, 1) if front == 1 => "the record after the Rule".to_string(),
+        (Some(2), before) => format!("the record of event {}", before - 1 - front),
+        (Some(3), _) => "the Marking record".to_string(),
+        (_, before) => format!("record {before}, counted from 0"),
+    }
+}
+
 impl Source {
+    /// The rule that the table states, in words; nothing where it states none.
+    pub fn rule_told(&self) -> Option<&'static str> {
+        let rule = self.table.rule?;
+        Some(match rule {
+            PAPER => "the paper's rule",
+            _ => "the old rule",
+        })
+    }
+
+    /// By the old rule a condition that holds stops even an event that takes it: this one does.
+    pub fn stops_taker(&self, event: u16, condition: u16) -> bool {
+        let event = self.table.events.get(usize::from(event));
+        self.table.is_old() && event.is_some_and(|e| e.preconditions.contains(&condition))
+    }
+
     /// An event with its name.
     fn event_called(&self, number: u16) -> String {
         let name = self.table.event_name(number);
@@ -119,23 +176,21 @@ impl Source {
                 Some(Part::Start) => {
                     format!("`start:`, line {} of {path}", self.table.start_place.line)
                 }
+                Some(Part::Rule) => {
+                    format!("`rule:`, line {} of {path}", self.table.rule_place.line)
+                }
                 _ => format!("the conditions of {path}"),
             };
         }
-        let record = match record_at(&self.bytes, offset) {
-            (_, 0) => "the first record".to_string(),
-            (Some(2), before) => format!("the record of event {}", before - 1),
-            (Some(3), _) => "the Marking record".to_string(),
-            (_, before) => format!("record {before}, counted from 0"),
-        };
+        let record = record_called(&self.bytes, offset);
         format!("byte {offset} of {path}, {record}{}", self.why_records())
     }
 
-    /// What a file that does not begin as a table does, with a record of kind 1, looks like, or why it was not taken as text.
+    /// What a file that does not begin as a table does, with a record of kind 1 or 6, looks like, or why it was not taken as text.
     fn why_records(&self) -> String {
-        let why = no_such_record(&self.bytes, 1);
+        let why = no_such_record(&self.bytes, TABLE_KINDS);
         match text::control_at(&self.bytes) {
-            Some(at) if why.is_empty() && self.bytes.get(2..4) != Some(&[1, 0]) => {
+            Some(at) if why.is_empty() && !begins_with(&self.bytes, TABLE_KINDS) => {
                 format!("; it is not taken as text, since byte {at} is a control character")
             }
             _ => why,
@@ -163,7 +218,7 @@ impl Source {
         match (refusal.number, run.places.first()) {
             (10..=12 | 15, _) => {}
             (1..=9, None) => {
-                let why = no_such_record(&run.bytes, 4);
+                let why = no_such_record(&run.bytes, RUN_KINDS);
                 return format!("byte {} of {called}{why}", refusal.place);
             }
             (1..=9, Some(first)) => {
@@ -204,11 +259,14 @@ impl Source {
     /// A refusal of the table, told.
     pub fn told(&self, refusal: Refusal) -> Told {
         let offset = refusal.place as usize;
-        let (kind, _) = record_at(&self.bytes, offset);
-        let due = due_in_table(refusal.number, offset, kind);
+        let due = due_in_table(refusal.number, &self.bytes, offset);
+        let what = match refusal.number {
+            4 if is_rule(&self.bytes, offset) => NO_RULE.to_string(),
+            number => meaning_with(number, due),
+        };
         Told {
             refusal,
-            what: meaning_with(refusal.number, due),
+            what,
             place: self.place_told(refusal),
         }
     }
@@ -244,8 +302,13 @@ impl Source {
     fn run_meaning(&self, run: &RunSource, refusal: Refusal) -> String {
         let Refusal { number, place, by } = refusal;
         let repeat = (number == 15).then(|| self.repeat_told(run, place as usize));
+        let event = run.steps.get(place as usize);
         match (by, repeat.flatten()) {
-            (Some(condition), _) => stopped_by(number, &self.condition_told(condition as u16)),
+            (Some(condition), _) => {
+                let condition = condition as u16;
+                let is_taken = event.is_some_and(|event| self.stops_taker(*event, condition));
+                stopped_by(number, &self.condition_told(condition), is_taken)
+            }
             (None, Some(repeat)) => repeat,
             (None, None) => meaning_with(number, self.due_in_run(number).as_deref()),
         }

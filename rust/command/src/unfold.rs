@@ -95,6 +95,16 @@ fn start(library: &mut Driver, table: &Source, conditions: usize) -> Answer<Vec<
     Ok(held(&marking))
 }
 
+/// The line on the rule by which the unfolded net is played; none where the table states none.
+fn played_by(table: &Source) -> Option<String> {
+    let rule = table.rule_told()?;
+    let copies = match table.table.is_old() {
+        true => "; copies of persistent conditions keep the paper's",
+        false => "",
+    };
+    Some(format!("follows {rule}{copies}"))
+}
+
 /// Writes the unfolding of a table.
 pub fn unfold(path: &str, out: &mut impl Write) -> Stopped<()> {
     let table = source::read(path)?;
@@ -105,6 +115,9 @@ pub fn unfold(path: &str, out: &mut impl Write) -> Stopped<()> {
     let events = counted(counts.events, "unfolded event");
     let held = start(&mut library, &table, counts.conditions as usize).map_err(told)?;
     writeln!(out, "{conditions}, {events}\nstart: {}", set_text(&held))?;
+    if let Some(rule) = played_by(&table) {
+        writeln!(out, "{rule}")?;
+    }
     writeln!(out, "\nunfolded events")?;
     for number in (0..=u16::MAX).take(counts.events as usize) {
         let line = event_line(&mut library, &table, number).map_err(told)?;

@@ -26,12 +26,26 @@ fn unfolded_told(library: &mut Driver, table: &Source, number: u16) -> Answer<St
     })
 }
 
+/// An unfolded condition stopped an unfolded event that takes it, as only the old rule has it; a copy never does.
+fn stops_taker(library: &mut Driver, table: &Source, event: u16, condition: u16) -> Answer<bool> {
+    let condition = library.condition_origin(&table.bytes, condition)?;
+    let event = library.event_origin(&table.bytes, event, &mut [0; 16])?;
+    Ok(condition.copy.is_none() && table.stops_taker(event.event, condition.condition))
+}
+
 /// What the refusal of a step means: by which unfolded condition it was stopped, or which unfolded events there are.
-fn step_meaning(library: &mut Driver, table: &Source, refusal: Refusal) -> Answer<String> {
-    let Refusal { number, by, .. } = refusal;
-    if let Some(condition) = by {
-        let condition = unfolded_told(library, table, condition as u16)?;
-        return Ok(stopped_by(number, &condition));
+fn step_meaning(
+    library: &mut Driver,
+    table: &Source,
+    trace: &Trace,
+    refusal: Refusal,
+) -> Answer<String> {
+    let Refusal { number, place, by } = refusal;
+    if let (Some(condition), Some(event)) = (by, trace.steps.get(place as usize)) {
+        let condition = condition as u16;
+        let is_taken = stops_taker(library, table, *event, condition)?;
+        let condition = unfolded_told(library, table, condition)?;
+        return Ok(stopped_by(number, &condition, is_taken));
     }
     let events = library.unfolded_counts(&table.bytes)?.events;
     let known = match events {
@@ -66,7 +80,7 @@ fn told(library: &mut Driver, table: &Source, trace: &Trace, refusal: Refusal) -
             (what, format!("{}, {steps}", trace.called))
         }
         10..=12 => {
-            let what = step_meaning(library, table, refusal)?;
+            let what = step_meaning(library, table, trace, refusal)?;
             (what, step_told(library, table, trace, step)?)
         }
         _ => return Ok(table.told(refusal)),

@@ -393,6 +393,16 @@ fn refusals_of_a_text_name_its_lines() {
             "refused 8 at 31\n",
             "event 1 `y`, line 4 of t.txt\n",
         ),
+        (
+            "conditions: a\n\nrule: 2\nstart: {}\n",
+            "refused 4 at 0\n",
+            "`rule:`, line 3 of t.txt\n",
+        ),
+        (
+            "rule: old\nconditions: a\nx: {a} -> {1}\nstart: {}\n",
+            "refused 5 at 10\n",
+            "event 0 `x`, line 3 of t.txt\n",
+        ),
     ] {
         folder.write("t.txt", text.as_bytes()).unwrap();
         for command in ["judge", "unfold", "show"] {
@@ -488,6 +498,104 @@ fn a_stopped_step_is_told_by_its_condition() {
         let both = format!("run `r`: {line}{what}  where: step ");
         assert!(judged.contains(&both), "{judged}");
     }
+}
+
+/// A table with which the two rules part, and two runs.
+const PARTING: &str = "conditions: ready, sent, key [p]\n\
+    send: {ready, key} -> {ready, sent}\nclear: {sent, key} -> {key}\nstart: {ready, key}\n\
+    run round: send, clear\nrun idle:\n";
+
+#[test]
+fn the_rule_is_told_where_a_table_states_one() {
+    let folder = Folder::new().unwrap();
+    let ran = |command: &str, text: &str| {
+        folder.write("t.txt", text.as_bytes()).unwrap();
+        let ran = ran_in(folder.path(), &[command, "t.txt"]);
+        assert_eq!((ran.status, ran.err.as_str()), (0, ""));
+        ran.out
+    };
+    let judged = ran("judge", PARTING);
+    let accepted = "accepted: 3 conditions and 2 events\n";
+    let (first, rest) = judged.split_at(accepted.len());
+    assert_eq!(first, accepted);
+    let played = "run `round`: 2 steps, ends in {ready, key}, lifts\n";
+    assert!(
+        rest.starts_with("unfolds to ") && rest.contains(played),
+        "{rest}"
+    );
+    let paper = ran("judge", &format!("rule: paper\n{PARTING}"));
+    assert_eq!(paper, format!("{accepted}follows the paper's rule\n{rest}"));
+    let old = ran("judge", &format!("{PARTING}rule: old\n"));
+    assert!(
+        old.starts_with(&format!("{accepted}follows the old rule\nunfolds to ")),
+        "{old}"
+    );
+    assert!(old.contains(
+        "run `round`: refused 12 at 0 by 0\n  what: condition 0 `ready` still holds, and the event would set it again: contact; \
+         it is a precondition too, but the table follows the old rule\n  where: step 0 of run `round`"
+    ), "{old}");
+    let unfolded = ran("unfold", PARTING);
+    let (counts, lists) = unfolded.split_at(unfolded.find("\n\n").unwrap() + 1);
+    assert_eq!(
+        ran("unfold", &format!("{PARTING}rule: 0\n")),
+        format!("{counts}follows the paper's rule\n{lists}")
+    );
+    assert_eq!(
+        ran("unfold", &format!("{PARTING}rule: 1\n")),
+        format!("{counts}follows the old rule; copies of persistent conditions keep the paper's\n{lists}")
+    );
+}
+
+#[test]
+fn a_table_with_a_rule_is_packed_shown_and_listed() {
+    let folder = Folder::new().unwrap();
+    let at = folder.path();
+    for (rule, byte) in [("old", 1), ("paper", 0)] {
+        let text = format!("{PARTING}rule: {rule}\n");
+        folder.write("t.txt", text.as_bytes()).unwrap();
+        assert_eq!(ran_in(at, &["pack", "t.txt"]).status, 0);
+        let packed = fs::read(at.join("t.net.bin")).unwrap();
+        assert_eq!(packed[..5], [1, 0, 6, 0, byte]);
+        let shown = ran_in(at, &["show", "t.net.bin"]).out;
+        assert!(
+            shown.starts_with(&format!("rule: {rule}\n\nconditions: 0, 1, 2 [p]\n")),
+            "{shown}"
+        );
+        folder.write("again.txt", shown.as_bytes()).unwrap();
+        assert_eq!(ran_in(at, &["pack", "again.txt"]).status, 0);
+        assert_eq!(fs::read(at.join("again.net.bin")).unwrap(), packed);
+        let own = ran_in(at, &["show", "t.txt"]).out;
+        assert!(
+            own.starts_with(&format!("rule: {rule}\n\nconditions:\n    ready\n")),
+            "{own}"
+        );
+        let idle = ran_in(at, &["list", "t.txt", "idle"]);
+        assert_eq!((idle.status, idle.out.lines().count()), (0, 2));
+    }
+    let (out, err) = refused(at, &["pack", "t.net.bin"]);
+    assert_eq!(out, "");
+    assert!(
+        err.ends_with("this is no text table; it looks like a table of records\n"),
+        "{err}"
+    );
+    let needs = ran_in(at, &["list", "t.net.bin"]);
+    assert!(
+        needs
+            .err
+            .contains("so no run stands in it and RUN must be given\n"),
+        "{}",
+        needs.err
+    );
+}
+
+#[test]
+fn a_step_that_the_old_rule_stops_is_told() {
+    let (out, err, judged) = told_of_run(&format!("rule: old\n{PARTING}"));
+    assert_eq!(out, "refused 12 at 0 by 0\n");
+    let what = "  what: condition 0 `ready` still holds, and the event would set it again: contact; \
+                it is a precondition too, but the table follows the old rule\n  where: step 0 of run `round`";
+    assert!(err.starts_with(what), "{err}");
+    assert!(judged.contains(what), "{judged}");
 }
 
 #[test]
@@ -819,7 +927,20 @@ fn what_is_due_in_place_of_a_wrong_record_is_told() {
     for (bytes, what) in [
         (
             &[0, 0, 7, 0][..],
-            "not allowed here: a table begins with its Conditions, kind 1\n",
+            "not allowed here: a table begins with its Conditions, kind 1, or with a Rule, kind 6\n",
+        ),
+        (&[0, 0, 6, 0], "its kind: a rule is 1 byte\n"),
+        (
+            &[1, 0, 6, 0, 2],
+            "what: the rule's byte is neither 0, the paper's rule, nor 1, the old rule\n",
+        ),
+        (
+            &[1, 0, 6, 0, 1, 1, 0, 6, 0, 1],
+            "not allowed here: after the Rule the Conditions, kind 1, are due\n",
+        ),
+        (
+            &[1, 0, 1, 0, 0, 1, 0, 6, 0, 1],
+            "not allowed here: a Rule stands first or nowhere; an Event, kind 2, or the Marking, kind 3, is due\n",
         ),
         (&[0, 0, 1, 0], "its kind: there are 1 to 256 conditions\n"),
         (

@@ -15,7 +15,7 @@ use second::generator::{
     cases_given, damaged, endless_net, event_limit_net, middle_net, small_net, Random,
 };
 use second::plain::reached_unfolded;
-use second::table::{read_table, table_bytes, Event, Net};
+use second::table::{read_table, table_bytes, Event, Net, Rule};
 use second::unfolding::unfold;
 
 /// The top of the repository.
@@ -66,6 +66,7 @@ fn net_c() -> Net {
         persistent: vec![true],
         events: vec![event(&[0], &[0])],
         start: vec![0],
+        rule: None,
     }
 }
 
@@ -87,6 +88,50 @@ fn net_c_is_exported_byte_for_byte() {
     assert_eq!(compared(&table_bytes(&net_c())), NET_C);
 }
 
+/// The export of one ordinary condition that holds, and which its one event takes and puts, made by hand; by the old rule the arcs of the
+/// second place come too.
+fn taken_and_put(rule: Rule) -> String {
+    let arc = |number: u8, source: &str, target: &str| {
+        format!(r#"<arc id="a{number}" source="{source}" target="{target}"/>"#)
+    };
+    let arcs = match rule {
+        Rule::Paper => vec![arc(0, "p0", "t0"), arc(1, "t0", "p0")],
+        Rule::Old => vec![
+            arc(0, "p0", "t0"),
+            arc(1, "q0", "t0"),
+            arc(2, "t0", "p0"),
+            arc(3, "t0", "q0"),
+        ],
+    };
+    let opens = &NET_C[..NET_C.find("<place").unwrap()];
+    let held = r#"<place id="p0"><initialMarking><text>1</text></initialMarking></place>"#;
+    let rest = r#"<place id="q0"/><transition id="t0"/>"#;
+    format!("{opens}{held}{rest}{}</page></net></pnml>", arcs.concat())
+}
+
+#[test]
+fn by_the_old_rule_the_second_place_is_taken_and_put_back() {
+    for rule in [None, Some(Rule::Paper), Some(Rule::Old)] {
+        let ordinary = Net {
+            persistent: vec![false],
+            rule,
+            ..net_c()
+        };
+        let expected = taken_and_put(rule.unwrap_or(Rule::Paper));
+        assert_eq!(compared(&table_bytes(&ordinary)), expected);
+        let persistent = Net { rule, ..net_c() };
+        assert_eq!(compared(&table_bytes(&persistent)), NET_C);
+    }
+    for (front, refused) in [
+        (&[1, 0, 6, 0, 2][..], "refused 4 at 0\n"),
+        (&[0, 0, 6, 0], "refused 3 at 0\n"),
+        (&[1, 0, 6, 0, 1, 1, 0, 6, 0, 1], "refused 2 at 5\n"),
+    ] {
+        let table = [front, &table_bytes(&net_c())].concat();
+        assert_eq!(compared(&table), refused);
+    }
+}
+
 #[test]
 fn files_that_are_none_count_as_empty() {
     let folder = Folder::new().unwrap();
@@ -105,11 +150,17 @@ fn the_longest_table_is_exported() {
         persistent: vec![false; 256],
         events: vec![event(&all, &all); 256],
         start: all,
+        rule: None,
     });
     assert_eq!(table.len(), 264_968);
     assert!(compared(&table)
         .ends_with(r#"<arc id="a131071" source="t255" target="p255"/></page></net></pnml>"#));
     assert_eq!(compared(&table[..264_967]), "refused 1 at 264452\n");
+    let ruled = [&[1, 0, 6, 0, 1][..], &table].concat();
+    assert_eq!(ruled.len(), 264_973);
+    assert!(compared(&ruled)
+        .ends_with(r#"<arc id="a262143" source="t255" target="q255"/></page></net></pnml>"#));
+    assert_eq!(compared(&ruled[..264_972]), "refused 1 at 264457\n");
 }
 
 #[test]

@@ -12,7 +12,7 @@ use second::generator::{
     limit_net, small_net, walk, Random,
 };
 use second::listing::{listing, MOST_NET_BYTES, MOST_RUN_BYTES};
-use second::records::{record_bytes, word_bytes, CONDITIONS, LIFTED, RUN};
+use second::records::{record_bytes, word_bytes, CONDITIONS, LIFTED, RULE, RUN};
 use second::table::{table_bytes, Event, Net};
 
 /// What stands under a file's name.
@@ -79,6 +79,7 @@ fn table(conditions: usize, persistent: &[usize], events: &[Event], start: &[u16
         persistent: (0..conditions).map(|b| persistent.contains(&b)).collect(),
         events: events.to_vec(),
         start: start.to_vec(),
+        rule: None,
     })
 }
 
@@ -303,6 +304,41 @@ fn stopped_steps_and_their_conditions() {
         compared_bytes(&ring, &run(&steps)),
         "refused 11 at 1000 by 10\n"
     );
+}
+
+#[test]
+fn runs_by_either_rule() {
+    let events = [
+        event(&[0], &[0, 2]),
+        event(&[0, 2], &[1, 2]),
+        event(&[1, 2], &[0]),
+    ];
+    let net = table(3, &[2], &events, &[0, 2]);
+    let ruled = |rule: u8, table: &[u8]| [&record_bytes(RULE, &[rule])[..], table].concat();
+    let played = "start 0,2\n0 0 0 0,2\n1 1 1 1,2\n2 2 4 0,2\nend unfolded 0,2,3,4,5,6,7\n";
+    for paper in [net.clone(), ruled(0, &net)] {
+        assert_eq!(compared_bytes(&paper, &run(&[0, 1, 2])), played);
+    }
+    let old = ruled(1, &net);
+    let expected = "start 0,2\n0 1 1 1,2\n1 2 4 0,2\nend unfolded 0,2,3,6,7\n";
+    assert_eq!(compared_bytes(&old, &run(&[1, 2])), expected);
+    for (steps, line) in [
+        (&[0, 1, 2][..], "refused 12 at 0 by 0\n"),
+        (&[1, 2, 0], "refused 12 at 2 by 0\n"),
+        (&[1, 0], "refused 11 at 1 by 0\n"),
+        (&[1, 2, 1], "refused 15 at 2\n"),
+    ] {
+        assert_eq!(compared_bytes(&old, &run(steps)), line);
+    }
+    for (bytes, line) in [
+        (ruled(2, &net), "refused 4 at 0\n"),
+        (ruled(1, &[]), "refused 1 at 5\n"),
+        (ruled(1, &ruled(1, &net)), "refused 2 at 5\n"),
+        ([&net[..], &ruled(1, &[])].concat(), "refused 9 at 59\n"),
+        (ruled(1, &net)[..4].to_vec(), "refused 1 at 0\n"),
+    ] {
+        assert_eq!(compared_bytes(&bytes, &run(&[])), line);
+    }
 }
 
 /// A run of a net as the generator walks it, its record whole or damaged now and then.

@@ -168,6 +168,34 @@ fn a_step_of_a_trace_is_told_by_the_copy_that_stopped_it() {
 }
 
 #[test]
+fn a_step_of_a_trace_that_the_old_rule_stops_is_told() {
+    let folder = Folder::new().unwrap();
+    let path = folder.path().join("t.txt").display().to_string();
+    let text = "rule: old\nconditions: ready, key [p]\nsend: {ready, key} -> {ready}\nclear: {ready, key} -> {key}\nstart: {ready, key}\n";
+    folder.write("t.txt", text.as_bytes()).unwrap();
+    let (out, err, status) = witness(&path, "t0");
+    assert_eq!((out.as_str(), status), ("refused 12 at 0 by 0\n", 1));
+    let what = "  what: unfolded condition 0 (place p0), which is condition 0 `ready`, still holds, and the event would set it again: \
+                contact; it is a precondition too, but the table follows the old rule\n  where: step 0 ";
+    assert!(err.starts_with(what), "{err}");
+    let run = run_of(&path, "t2");
+    assert_eq!(run, "run: clear\n# 1 step, ends in {key}\n");
+    let paper = text.replace("rule: old\n", "rule: paper\n");
+    folder.write("t.txt", paper.as_bytes()).unwrap();
+    assert_eq!(
+        run_of(&path, "t0 t2"),
+        "run: send, clear\n# 2 steps, ends in {key}\n"
+    );
+    let copies = "rule: old\nconditions: key [p]\nset: {} -> {key}\nuse: {key} -> {}\nstart: {}\n";
+    folder.write("t.txt", copies.as_bytes()).unwrap();
+    let (out, err, _) = witness(&path, "t0 t0");
+    assert!(
+        out.starts_with("refused 12 at 1 by ") && err.contains("set it again: contact\n"),
+        "{out}{err}"
+    );
+}
+
+#[test]
 fn traces_that_are_too_long_or_of_no_unfolding_are_told() {
     for count in [4097, 70_000] {
         let said = format!(

@@ -4,7 +4,7 @@ use second::across::{lifted, may_repeat};
 use second::game::{fire, play, Game, Stop};
 use second::generator::{any_marking, walk, Random, Walk};
 use second::records::{record_bytes, word_bytes, LIFTED, MOST_STEPS, RUN};
-use second::table::{Event, Net};
+use second::table::{Event, Net, Rule};
 use second::unfolding::{
     counts, judge_unfolding, markers, persistent_preconditions, unfold, users, Marker, Unfolding,
 };
@@ -107,11 +107,19 @@ fn any_walk(random: &mut Random, events: usize) -> Walk {
     }
 }
 
+/// A net as it is walked in: by its own rule, but of the old one now and then by the paper's, so that the old rule stops a step.
+fn walked_net(random: &mut Random, net: &Net) -> Net {
+    let mut walked = net.clone();
+    walked.rule = net.rule.filter(|_| random.percent(75));
+    walked
+}
+
 /// A run of a net's events, which mostly plays; now and then too long, changed at a step, or of any numbers.
 fn any_run(random: &mut Random, net: &Net) -> Vec<u16> {
     let events = net.events.len();
     let way = any_walk(random, events);
-    let mut run = walk(random, net, events, &way);
+    let walked = walked_net(random, net);
+    let mut run = walk(random, &walked, events, &way);
     match random.below(100) {
         0..=1 => {
             let length = random.between(MOST_STEPS + 1, MOST_STEPS + 30);
@@ -126,10 +134,14 @@ fn any_run(random: &mut Random, net: &Net) -> Vec<u16> {
         10..=19 => {
             let kind = [(11, false), (11, true), (12, false)][random.below(3)];
             let lasting = |b: u16| net.persistent[usize::from(b)];
-            let wanted = |stop| is_kind(stop, kind, lasting);
+            let wanted = |_, stop| is_kind(stop, kind, lasting);
             add_stopped(random, net, events, &mut run, wanted);
         }
-        20..=24 => add_wrong_repeat(random, net, &mut run),
+        20..=29 => add_wrong_repeat(random, net, &mut run),
+        30..=49 if net.rule == Some(Rule::Old) => {
+            let wanted = |event, stop| is_by_taken(net, event, stop);
+            add_stopped(random, net, events, &mut run, wanted);
+        }
         _ => {}
     }
     run
@@ -157,6 +169,12 @@ fn is_kind(stop: Stop, kind: (u8, bool), lasting: impl Fn(u16) -> bool) -> bool 
     stop.number == kind.0 && stop.by.is_some_and(|b| lasting(b) == kind.1)
 }
 
+/// An event is stopped by a condition that it takes, as only the old rule has it.
+fn is_by_taken<G: Game>(game: &G, event: u16, stop: Stop) -> bool {
+    let taken = game.event(event).unwrap_or_default().preconditions;
+    stop.number == 12 && stop.by.is_some_and(|b| taken.contains(&b))
+}
+
 /// Adds a step that is stopped in a wanted way to a run that plays, if one of its own steps or of some other events is; now and then
 /// a step follows it that is not looked at.
 fn add_stopped<G: Game>(
@@ -164,7 +182,7 @@ fn add_stopped<G: Game>(
     game: &G,
     events: usize,
     run: &mut Vec<u16>,
-    wanted: impl Fn(Stop) -> bool,
+    wanted: impl Fn(u16, Stop) -> bool,
 ) {
     let Ok(end) = play(game, game.start(), run) else {
         return;
@@ -172,7 +190,7 @@ fn add_stopped<G: Game>(
     let own = run.iter().rev().take(TRIED).copied();
     let others = (0..TRIED).map(|_| random.below(events) as u16);
     let tried: Vec<u16> = own.chain(others).collect();
-    let stopped = |e: &u16| fire(game, &end, *e).is_err_and(&wanted);
+    let stopped = |e: &u16| fire(game, &end, *e).is_err_and(|stop| wanted(*e, stop));
     if let Some(step) = tried.into_iter().find(stopped) {
         run.push(step);
         run.extend(random.percent(30).then(|| random.word()));
@@ -201,12 +219,18 @@ fn lifting_run(random: &mut Random, net: &Net, unfolding: &Unfolding) -> Vec<u16
 }
 
 /// Adds an unfolded step that is stopped to a run that plays: often by contact at a copy, as where an event that marks for others comes
-/// again.
-fn stop_unfolded(random: &mut Random, unfolding: &Unfolding, run: &mut Vec<u16>) {
+/// again, and by the old rule often at a condition that it takes.
+fn stop_unfolded(random: &mut Random, net: &Net, unfolding: &Unfolding, run: &mut Vec<u16>) {
+    let events = unfolding.events.len();
+    if net.rule == Some(Rule::Old) && random.percent(75) {
+        let wanted = |event, stop| is_by_taken(unfolding, event, stop);
+        add_stopped(random, unfolding, events, run, wanted);
+        return;
+    }
     let kinds = [(11, false), (11, true), (12, false), (12, true), (12, true)];
     let kind = kinds[random.below(kinds.len())];
     let copy = |b: u16| unfolding.conditions[usize::from(b)].copy.is_some();
-    let (events, wanted) = (unfolding.events.len(), |stop| is_kind(stop, kind, copy));
+    let wanted = |_, stop| is_kind(stop, kind, copy);
     add_stopped(random, unfolding, events, run, wanted);
 }
 
@@ -222,16 +246,17 @@ fn any_unfolded_run(random: &mut Random, net: &Net) -> Vec<u16> {
             arbitrary: [0, 0, 5, 30][random.below(4)],
             avoid_repeats: false,
         };
-        let mut run = walk(random, &unfolding, events, &way);
+        let walked = Unfolding::of(&walked_net(random, net));
+        let mut run = walk(random, &walked, events, &way);
         if random.percent(25) {
-            stop_unfolded(random, &unfolding, &mut run);
+            stop_unfolded(random, net, &unfolding, &mut run);
         }
         return run;
     }
     let mut run = lifting_run(random, net, &unfolding);
     match random.below(100) {
         0..=19 => change_step(random, &mut run, events),
-        34..=54 => stop_unfolded(random, &unfolding, &mut run),
+        34..=54 => stop_unfolded(random, net, &unfolding, &mut run),
         20..=29 => run.push(any_number(random, events)),
         30..=33 => {
             run.push(0);
@@ -262,6 +287,9 @@ fn marking_for(random: &mut Random, conditions: usize, event: Option<Event>) -> 
     };
     if random.percent(75) {
         event.postconditions.iter().for_each(|b| set(b, 0));
+    }
+    if random.percent(20) {
+        event.postconditions.last().iter().for_each(|b| set(b, 1));
     }
     event.preconditions.iter().for_each(|b| set(b, 1));
     for _ in 0..[0, 0, 0, 0, 0, 1, 3][random.below(7)] {

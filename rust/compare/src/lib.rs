@@ -4,4 +4,5 @@ pub mod case;
 pub mod elements;
 pub mod expected;
 pub mod nets;
+pub mod rules;
 pub mod tally;

@@ -1,10 +1,10 @@
 //! Nets and tables to ask about, beyond those of the second implementation's generator.
 
 use second::generator::{
-    damaged, endless_net, event_limit_net, large_net, leave_to, limit_net, middle_net,
-    repeating_net, small_net, Random,
+    any_rule, damaged, endless_net, event_limit_net, large_net, leave_to, limit_net, middle_net,
+    put_in, repeating_net, small_net, Random,
 };
-use second::table::{table_bytes, Event, Net};
+use second::table::{table_bytes, Event, Net, Rule};
 
 /// A table to ask about, with the net that it says, or said before it was damaged.
 pub struct Asked {
@@ -70,6 +70,7 @@ pub fn ring_net(random: &mut Random) -> Net {
             .take(names.len())
             .map(|b| lasting.contains(&b))
             .collect(),
+        rule: None,
     }
 }
 
@@ -115,6 +116,7 @@ pub fn full_net(random: &mut Random) -> Net {
         persistent: vec![false; 256],
         events: vec![event; 256],
         start: all,
+        rule: None,
     };
     if random.percent(50) {
         let (event, place) = (random.below(256), random.below(256));
@@ -149,6 +151,7 @@ fn power_net(random: &mut Random) -> Net {
         persistent: vec![true; read.len()],
         events,
         start: read.into_iter().filter(|_| random.percent(50)).collect(),
+        rule: None,
     }
 }
 
@@ -174,6 +177,7 @@ fn broad_net(random: &mut Random) -> Net {
         persistent: vec![true; lasting],
         events,
         start: all.into_iter().filter(|_| random.percent(20)).collect(),
+        rule: None,
     }
 }
 
@@ -188,6 +192,33 @@ fn idle_net(random: &mut Random) -> Net {
         postconditions: vec![last],
     };
     net.events.insert(place, idle);
+    net
+}
+
+/// Has an event of a net take and put an ordinary condition, if there are both; now and then it also puts a higher one that it does not
+/// take and that holds at the start.
+fn take_and_put(random: &mut Random, net: &mut Net) {
+    let all = (0..=u16::MAX).zip(&net.persistent);
+    let ordinary: Vec<u16> = all.filter(|(_, p)| !**p).map(|(b, _)| b).collect();
+    let (event, place) = (random.below(net.events.len()), random.below(ordinary.len()));
+    let (Some(event), Some(condition)) = (net.events.get_mut(event), ordinary.get(place)) else {
+        return;
+    };
+    put_in(&mut event.preconditions, *condition);
+    put_in(&mut event.postconditions, *condition);
+    if let Some(higher) = ordinary.get(place + 1).filter(|_| random.percent(70)) {
+        event.preconditions.retain(|b| b != higher);
+        put_in(&mut event.postconditions, *higher);
+        put_in(&mut net.start, *higher);
+    }
+}
+
+/// A net with any rule; by the old one, half of the nets get an event that takes and puts an ordinary condition.
+fn with_rule(random: &mut Random, mut net: Net) -> Net {
+    net.rule = any_rule(random);
+    if net.rule == Some(Rule::Old) && random.percent(50) {
+        take_and_put(random, &mut net);
+    }
     net
 }
 
@@ -208,19 +239,21 @@ fn net_of_kind(random: &mut Random, place: usize) -> Net {
     }
 }
 
-/// A net of any kind, mostly small.
+/// A net of any kind, mostly small, with any rule.
 pub fn any_net(random: &mut Random) -> Net {
     let place = random.below(1000);
-    net_of_kind(random, place)
+    let net = net_of_kind(random, place);
+    with_rule(random, net)
 }
 
 /// A net of any kind for a call that goes across: in a third of them, events that mark come again and are lifted.
 pub fn any_net_across(random: &mut Random) -> Net {
-    match random.below(1000) {
+    let net = match random.below(1000) {
         300..=459 => repeating_net(random),
         620..=779 => repeating_ring_net(random),
         place => net_of_kind(random, place),
-    }
+    };
+    with_rule(random, net)
 }
 
 /// A sound table with one to three bytes changed, which is mostly refused and now and then another sound table.

@@ -1,5 +1,5 @@
-//! What was seen: how often each call gave each refusal, by which kind of condition, which kinds of repeats were lifted or refused, and
-//! whether any was missed.
+//! What was seen: how often each call gave each refusal, by which kind of condition, which kinds of repeats were lifted or refused, what
+//! tables stated as their rule and what came of it, and whether any was missed.
 
 use std::collections::{BTreeMap, BTreeSet};
 
@@ -8,6 +8,8 @@ use second::records::words;
 use second::repeats::{repeats, Repeat};
 use second::table::read_table;
 use wire::{Call, Reply, Request};
+
+use crate::rules::{rules_met, Ruled};
 
 /// What is told of an outcome beside its number.
 #[derive(Clone, Copy, PartialEq, Eq, PartialOrd, Ord)]
@@ -163,11 +165,17 @@ fn shown(count: u64) -> String {
     }
 }
 
-/// How often each call came to each outcome, and those that lift met each kind of repeat.
+/// A call fires events, of the table or unfolded ones.
+fn fires(call: Call) -> bool {
+    own_refusals(call).contains(&11)
+}
+
+/// How often each call came to each outcome, those that lift met each kind of repeat, and each met what there is of the rules.
 #[derive(Default)]
 pub struct Tally {
     seen: BTreeMap<(Call, Outcome), u64>,
     repeats: BTreeMap<(Call, Repeat), u64>,
+    rules: BTreeMap<(Call, Ruled), u64>,
 }
 
 impl Tally {
@@ -177,6 +185,9 @@ impl Tally {
         *self.seen.entry(key).or_default() += 1;
         for kind in repeats_met(request, reply) {
             *self.repeats.entry((request.call, kind)).or_default() += 1;
+        }
+        for kind in rules_met(request, reply) {
+            *self.rules.entry((request.call, kind)).or_default() += 1;
         }
     }
 
@@ -191,8 +202,7 @@ impl Tally {
     fn stops_table(&self) -> String {
         let words = STOPS.iter().map(|(_, _, words)| words.to_string());
         let mut text = row("stopped by", words);
-        let fires = |(call, _): &(Call, &str)| own_refusals(*call).contains(&11);
-        for (call, name) in Call::ALL.into_iter().filter(fires) {
+        for (call, name) in Call::ALL.into_iter().filter(|(call, _)| fires(*call)) {
             let count = |number, kind| self.seen.get(&(call, (number, kind))).copied();
             let counts = STOPS.iter().map(|(number, kind, _)| count(*number, *kind));
             text += &row(name, counts.map(|count| shown(count.unwrap_or(0))));
@@ -212,7 +222,29 @@ impl Tally {
         text
     }
 
-    /// The tables of counts: a row for each call, a column for each number; of 11 and 12 the conditions; of lifts the repeats.
+    /// How often all calls together met a rule's record that is broken in some way.
+    fn of_broken(&self, kind: Ruled) -> u64 {
+        let met = self.rules.iter().filter(|((_, met), _)| *met == kind);
+        met.map(|(_, count)| count).sum()
+    }
+
+    /// The tables of rules: a row for each call on a table, a column for each thing met; then what all calls met of broken records.
+    fn rules_table(&self) -> String {
+        let words = Ruled::BY_CALL.iter().map(|(_, words)| words.to_string());
+        let mut text = row("rules", words);
+        let on_table = |(call, _): &(Call, &str)| !call.is_on_record();
+        for (call, name) in Call::ALL.into_iter().filter(on_table) {
+            let count = |kind| self.rules.get(&(call, kind)).copied();
+            let counts = Ruled::BY_CALL.iter().map(|(kind, _)| count(*kind));
+            text += &row(name, counts.map(|count| shown(count.unwrap_or(0))));
+        }
+        let words = Ruled::BROKEN.iter().map(|(_, words)| words.to_string());
+        let counts = Ruled::BROKEN.iter().map(|(kind, _)| self.of_broken(*kind));
+        text += &row("broken rules", words);
+        text + &row("all calls", counts.map(shown))
+    }
+
+    /// The tables of counts: a row for each call, a column for each number; of 11 and 12 the conditions; of lifts the repeats; the rules.
     pub fn table(&self) -> String {
         let mut text = format!("{:<18}{:>9}{:>9}", "call", "cases", "fine");
         (1..=18).for_each(|number| text.push_str(&format!("{number:>6}")));
@@ -226,10 +258,25 @@ impl Tally {
             text.truncate(text.trim_end().len());
             text.push('\n');
         }
-        text + &self.stops_table() + &self.repeats_table()
+        text + &self.stops_table() + &self.repeats_table() + &self.rules_table()
     }
 
-    /// The outcomes that no case came to and the repeats that none met, of one call or of all, as text.
+    /// What no case met of the rules by a call, as text.
+    fn missed_rules(&self, call: Call) -> impl Iterator<Item = String> + '_ {
+        let can_be = move |(kind, _): &(Ruled, &str)| kind.can_be_met(call, fires(call));
+        let unmet = move |(kind, _): &(Ruled, &str)| !self.rules.contains_key(&(call, *kind));
+        let missed = Ruled::BY_CALL.into_iter().filter(can_be).filter(unmet);
+        missed.map(move |(_, words)| format!("{} never met '{words}'", call.name()))
+    }
+
+    /// The broken Rule records that no case of any call met, as text.
+    fn missed_broken(&self) -> impl Iterator<Item = String> + '_ {
+        let unmet = |(kind, _): &(Ruled, &str)| self.of_broken(*kind) == 0;
+        let missed = Ruled::BROKEN.into_iter().filter(unmet);
+        missed.map(|(_, words)| format!("no call met a rule broken by '{words}'"))
+    }
+
+    /// The outcomes that no case came to, the repeats and what there is of the rules that none met, of one call or of all, as text.
     pub fn missed(&self, only: Option<Call>) -> Vec<String> {
         let mut missed = Vec::new();
         let wanted = |(call, _): &(Call, &str)| only.is_none_or(|only| only == *call);
@@ -245,6 +292,10 @@ impl Tally {
                     missed.push(format!("{name} never met a repeat '{words}'"));
                 }
             }
+            missed.extend(self.missed_rules(call));
+        }
+        if only.is_none() {
+            missed.extend(self.missed_broken());
         }
         missed
     }

@@ -5,6 +5,8 @@ use std::collections::{BTreeMap, BTreeSet};
 use compare::case::{call_of, case};
 use compare::elements::whole_export;
 use compare::expected::expected;
+use compare::rules::{rules_met, Ruled};
+use compare::tally::Tally;
 use second::calls::{condition_behind, event_behind, is_persistent};
 use second::generator::Random;
 use second::records::words;
@@ -141,9 +143,116 @@ fn steps_are_stopped_by_every_kind_of_condition() {
     assert!(least.is_some_and(|least| *least > 25), "{seen:?}");
 }
 
+#[test]
+fn tables_come_with_every_rule_and_with_every_broken_one() {
+    let mut seen: BTreeMap<Ruled, usize> = BTreeMap::new();
+    let mut alone = [0; 2];
+    for request in (0..20_000).map(|n| case(Random::new(n).draw())) {
+        for kind in rules_met(&request, &expected(&request)) {
+            *seen.entry(kind).or_default() += 1;
+            let unfolded = usize::from(STOPPED[1].contains(&request.call));
+            alone[unfolded] += usize::from(kind == Ruled::OldAlone);
+        }
+    }
+    for (kind, words) in [Ruled::BY_CALL, Ruled::BROKEN].concat() {
+        assert!(seen.contains_key(&kind), "{words}: {seen:?}");
+    }
+    assert!(
+        seen[&Ruled::Paper] > 500 && seen[&Ruled::Old] > 500,
+        "{seen:?}"
+    );
+    assert!(alone.iter().all(|count| *count > 20), "{alone:?}");
+}
+
+/// Net P's table under the old rule: event 0 takes and puts the ordinary 0, and marks [2], which events 1 and 2 read.
+fn old_net_p() -> Vec<u8> {
+    vec![
+        1, 0, 6, 0, 1, 3, 0, 1, 0, 0, 0, 1, 10, 0, 2, 0, 1, 0, 2, 0, 0, 0, 0, 0, 2, 0, 12, 0, 2, 0,
+        2, 0, 2, 0, 0, 0, 2, 0, 1, 0, 2, 0, 10, 0, 2, 0, 2, 0, 1, 0, 1, 0, 2, 0, 0, 0, 2, 0, 3, 0,
+        0, 0,
+    ]
+}
+
+#[test]
+fn what_a_case_met_of_the_rules_is_told() {
+    let met = |request: &Request| rules_met(request, &expected(request));
+    let mut fire = Request::new(Call::Fire, &old_net_p());
+    fire.given = vec![1, 0, 0];
+    assert_eq!(met(&fire), [Ruled::Old, Ruled::OldAlone]);
+    fire.given = vec![0, 0, 0];
+    assert_eq!(met(&fire), [Ruled::Old]);
+    let mut run = Request::new(Call::UnfoldedReplay, &old_net_p());
+    run.given = vec![0, 0];
+    assert_eq!(met(&run), [Ruled::Old, Ruled::OldAlone]);
+    assert_eq!(
+        met(&Request::new(Call::ElementCount, &old_net_p())),
+        [Ruled::Old, Ruled::SecondCounted]
+    );
+    let mut element = Request::new(Call::Element, &old_net_p());
+    element.lent = vec![0; 300];
+    let kinds = (0..64).flat_map(|number| {
+        element.numbers[0] = number;
+        met(&element).into_iter().skip(1)
+    });
+    let kinds: Vec<Ruled> = kinds.collect();
+    assert_eq!(kinds, [Ruled::SecondTaken, Ruled::SecondPut]);
+    let mut paper = old_net_p();
+    paper[4] = 0;
+    fire.table = paper;
+    fire.given = vec![1, 0, 0];
+    assert_eq!(met(&fire), [Ruled::Paper]);
+    fire.table = net_a();
+    assert_eq!(met(&fire), []);
+}
+
+#[test]
+fn a_broken_rule_record_is_told_by_how_it_is_broken() {
+    let table = old_net_p();
+    let put = |at: usize, record: &[u8]| [&table[..at], record, &table[at..]].concat();
+    let first = |record: &[u8]| [record, &table[5..]].concat();
+    for (bytes, kind) in [
+        (table[..4].to_vec(), Ruled::Cut),
+        (table[..5].to_vec(), Ruled::EndsAfter),
+        (put(5, &[1, 0, 6, 0, 0]), Ruled::Twice),
+        (put(12, &[1, 0, 6, 0, 0]), Ruled::Elsewhere),
+        (
+            table[5..12].iter().chain(&table).copied().collect(),
+            Ruled::Elsewhere,
+        ),
+        (first(&[0, 0, 6, 0]), Ruled::NoByte),
+        (first(&[2, 0, 6, 0, 1, 0]), Ruled::ManyBytes),
+        (first(&[1, 0, 6, 0, 2]), Ruled::OtherByte),
+    ] {
+        let request = Request::new(Call::Judge, &bytes);
+        assert_eq!(rules_met(&request, &expected(&request)), [kind]);
+    }
+    for bytes in [&table[..3], &table[..9], &net_a()[..8]] {
+        let request = Request::new(Call::Judge, bytes);
+        assert_eq!(rules_met(&request, &expected(&request)), []);
+    }
+}
+
+#[test]
+fn what_was_missed_of_the_rules_is_told() {
+    let mut tally = Tally::default();
+    let request = Request::new(Call::ElementCount, &old_net_p());
+    tally.count(&request, &expected(&request));
+    let missed = tally.missed(None);
+    let has = |line: &str| missed.iter().any(|missed| missed == line);
+    assert!(has("judge never met 'rule 0'") && has("judge never met 'rule 1'"));
+    assert!(has("lift never met '12 old alone'") && has("project never met '12 old lower'"));
+    assert!(has("element never met 'q taken'") && has("no call met a rule broken by '2 twice'"));
+    assert!(has("element_count never met 'rule 0'") && !has("element_count never met 'q counted'"));
+    assert!(!missed
+        .iter()
+        .any(|line| line.starts_with("read_run never met '")));
+    let of_judge = tally.missed(Some(Call::Judge));
+    assert!(of_judge.iter().all(|line| line.starts_with("judge ")));
+}
+
 /// The cases of two calls among those of many seeds.
 fn cases_of(calls: [Call; 2]) -> impl Iterator<Item = Request> {
-    let seeds = (0..40_000).map(|n| Random::new(n).draw());
+    let seeds = (0..60_000).map(|n| Random::new(n).draw());
     seeds
         .filter(move |seed| calls.contains(&call_of(*seed)))
         .map(case)

@@ -1,7 +1,8 @@
-//! The export of the unfolded net as a plain net in PNML, one element at a time (02, No. 1).
+//! The export of the unfolded net as a plain net in PNML, one element at a time (02, No. 1 and No. 4).
 
 use crate::game::Game;
 use crate::plain::{Plain, Transition};
+use crate::table::Rule;
 use crate::unfolding::Unfolding;
 
 /// The first element: all that opens.
@@ -57,12 +58,6 @@ fn places(first: &[u16], second: &[u16]) -> Vec<Place> {
     [on(Side::First, first), on(Side::Second, second)].concat()
 }
 
-/// The elements of one ascending list that are not in another.
-fn without(list: &[u16], other: &[u16]) -> Vec<u16> {
-    let missing = |b: &u16| other.binary_search(b).is_err();
-    list.iter().copied().filter(missing).collect()
-}
-
 /// The doubled net: every unfolded condition has a second place that holds a token exactly when the first does not.
 pub struct Doubled<'a> {
     unfolding: &'a Unfolding,
@@ -78,14 +73,23 @@ impl<'a> Doubled<'a> {
         }
     }
 
+    /// The conditions of one ascending list whose second places have arcs: those that are not in the other list, and by the old rule
+    /// all others too.
+    fn doubled(&self, list: &[u16], other: &[u16]) -> Vec<u16> {
+        let missing = |b: &u16| other.binary_search(b).is_err();
+        let doubled = |b: &u16| missing(b) || self.unfolding.rule_of(*b) == Rule::Old;
+        list.iter().copied().filter(doubled).collect()
+    }
+
     /// An event of the doubled net: it takes the second place of each postcondition that is no precondition, and puts that of each
-    /// precondition that is no postcondition.
+    /// precondition that is no postcondition; where a condition that is both follows the old rule, it takes its second place and puts it
+    /// back.
     pub fn event(&self, number: u16) -> Option<DoubledEvent> {
         let event = self.unfolding.event(number)?;
         let (before, after) = (&event.preconditions, &event.postconditions);
         Some(DoubledEvent {
-            taken: places(before, &without(after, before)),
-            put: places(after, &without(before, after)),
+            taken: places(before, &self.doubled(after, before)),
+            put: places(after, &self.doubled(before, after)),
         })
     }
 

@@ -1,13 +1,15 @@
-//! The token game: concession, firing, playing a run and exchanging steps (01, Playing the table; the paper, section 5).
+//! The token game: concession, firing, playing a run and exchanging steps (01, Playing the table; 02, No. 4; the paper, section 5).
 
 use crate::lent::marking_of;
 use crate::refusal::{refuse, require, Answer, Refusal};
-use crate::table::{Event, Net};
+use crate::table::{Event, Net, Rule};
 
 /// A net that is played: the table's net, or its unfolding with all conditions ordinary.
 pub trait Game {
     /// Which conditions are persistent.
     fn persistent(&self) -> &[bool];
+    /// The rule by which an ordinary condition blocks.
+    fn rule_of(&self, condition: u16) -> Rule;
     /// The event with this number, if there is one.
     fn event(&self, number: u16) -> Option<Event>;
     /// The marking at the start.
@@ -17,6 +19,10 @@ pub trait Game {
 impl Game for Net {
     fn persistent(&self) -> &[bool] {
         &self.persistent
+    }
+
+    fn rule_of(&self, _: u16) -> Rule {
+        self.rule()
     }
 
     fn event(&self, number: u16) -> Option<Event> {
@@ -59,18 +65,19 @@ fn lowest_at_fault(number: u8, at_fault: impl Iterator<Item = u16>) -> Result<()
 }
 
 /// Tests the concession of an event: 11 by the lowest precondition that does not hold, before 12 by the lowest ordinary condition in
-/// contact.
-fn concession(persistent: &[bool], event: &Event, marking: &[bool]) -> Result<(), Stop> {
+/// contact. An ordinary postcondition that holds is in contact if it is no precondition, and by the old rule even if it is one.
+fn concession<G: Game>(game: &G, event: &Event, marking: &[bool]) -> Result<(), Stop> {
     let Event {
         preconditions,
         postconditions,
     } = event;
     let holds = |b: &u16| marking[usize::from(*b)];
-    let ordinary = |b: &u16| !persistent[usize::from(*b)];
+    let ordinary = |b: &u16| !game.persistent()[usize::from(*b)];
+    let blocks = |b: &u16| !preconditions.contains(b) || game.rule_of(*b) == Rule::Old;
     let lacking = preconditions.iter().filter(|b| !holds(b));
     let contact = postconditions
         .iter()
-        .filter(|b| ordinary(b) && holds(b) && !preconditions.contains(b));
+        .filter(|b| ordinary(b) && holds(b) && blocks(b));
     lowest_at_fault(11, lacking.copied())?;
     lowest_at_fault(12, contact.copied())
 }
@@ -99,7 +106,7 @@ pub fn fire<G: Game>(game: &G, marking: &[bool], number: u16) -> Result<Vec<bool
         by: None,
     };
     let event = game.event(number).ok_or(unknown)?;
-    concession(game.persistent(), &event, marking)?;
+    concession(game, &event, marking)?;
     Ok(fired(game.persistent(), &event, marking))
 }
 

@@ -1,9 +1,9 @@
 //! A seeded generator of tables, damaged tables, runs and markings, for tests and comparison.
 
 use crate::game::{fire, Game};
-use crate::records::{record_bytes, word_bytes, CONDITIONS, EVENT, HEADER, MARKING};
+use crate::records::{record_bytes, word_bytes, CONDITIONS, EVENT, HEADER, MARKING, RULE};
 use crate::refusal::Refusal;
-use crate::table::{event_bytes, table_records, Event, Net, MOST_EVENTS, MOST_PERSISTENT};
+use crate::table::{event_bytes, table_records, Event, Net, Rule, MOST_EVENTS, MOST_PERSISTENT};
 use crate::unfolding::{counts, unfold, Unfolding};
 
 /// The number that the environment gives under a name, if it gives one.
@@ -17,6 +17,7 @@ pub fn cases_given(otherwise: u64) -> u64 {
 }
 
 /// A small generator of random numbers (SplitMix64); equal seeds give equal numbers.
+#[derive(Clone)]
 pub struct Random {
     state: u64,
 }
@@ -125,7 +126,16 @@ fn event(random: &mut Random, persistent: &[bool], shape: &Shape) -> Event {
     event
 }
 
-/// A net of a shape, sound in every list.
+/// What a table says of its rule: mostly nothing, else either rule.
+pub fn any_rule(random: &mut Random) -> Option<Rule> {
+    match random.below(100) {
+        0..=14 => Some(Rule::Paper),
+        15..=39 => Some(Rule::Old),
+        _ => None,
+    }
+}
+
+/// A net of a shape, sound in every list, with any rule.
 fn shaped_net(random: &mut Random, shape: &Shape) -> Net {
     let conditions = random.between(shape.conditions.0, shape.conditions.1);
     let persistent: Vec<bool> = (0..conditions)
@@ -135,11 +145,11 @@ fn shaped_net(random: &mut Random, shape: &Shape) -> Net {
     let events = (0..events)
         .map(|_| event(random, &persistent, shape))
         .collect();
-    let start = list(random, conditions, shape.held);
     Net {
+        start: list(random, conditions, shape.held),
+        rule: any_rule(random),
         persistent,
         events,
-        start,
     }
 }
 
@@ -157,7 +167,7 @@ pub fn small_net(random: &mut Random) -> Net {
 }
 
 /// Puts a condition into an ascending list, if it is not there.
-fn put_in(list: &mut Vec<u16>, condition: u16) {
+pub fn put_in(list: &mut Vec<u16>, condition: u16) {
     if let Err(place) = list.binary_search(&condition) {
         list.insert(place, condition);
     }
@@ -271,7 +281,7 @@ pub fn event_limit_net() -> Net {
     Net {
         persistent: vec![true; 15],
         events: marking.chain(reading).collect(),
-        start: Vec::new(),
+        ..Net::default()
     }
 }
 
@@ -280,7 +290,7 @@ pub fn condition_limit_net() -> Net {
     Net {
         persistent: vec![true; 2],
         events: vec![event_of(&[0, 1], &[0]); 255],
-        start: Vec::new(),
+        ..Net::default()
     }
 }
 
@@ -302,6 +312,7 @@ pub fn limit_net(random: &mut Random) -> Net {
         net.events.push(event_of(&[], &[last]));
     }
     net.start = list(random, net.persistent.len(), 50);
+    net.rule = any_rule(random);
     net
 }
 
@@ -312,6 +323,7 @@ pub fn endless_net() -> Net {
         persistent: vec![true; 16],
         events: vec![event_of(&all, &all); 256],
         start: all,
+        rule: None,
     }
 }
 
@@ -383,8 +395,9 @@ fn cut(random: &mut Random, net: &Net) -> Damaged {
 fn trailing(random: &mut Random, net: &Net) -> Damaged {
     let mut bytes = table_records(net).concat();
     let place = bytes.len();
-    match random.below(2) {
+    match random.below(3) {
         0 => bytes.extend(record_bytes(MARKING, &[])),
+        1 => bytes.extend(record_bytes(RULE, &[1])),
         _ => {
             let count = random.between(1, 9);
             bytes.extend(random.bytes(count));
@@ -396,12 +409,18 @@ fn trailing(random: &mut Random, net: &Net) -> Damaged {
     }
 }
 
+/// The place of the Conditions record among the records of a net's table: the first, or the one after the Rule record.
+fn conditions_at(net: &Net) -> usize {
+    usize::from(net.rule.is_some())
+}
+
 /// A record of a kind that is not allowed where it stands: 2.
 fn wrong_kind(random: &mut Random, net: &Net) -> Broken {
     let mut records = table_records(net);
     let at = random.below(records.len());
     let kind: u16 = match at {
-        0 => [0, 2, 3, 4, 257, 65_535][random.below(6)],
+        0 => [0, 2, 3, 4, 257, 262, 65_535][random.below(7)],
+        _ if at == conditions_at(net) => [0, 2, 3, 5, 6, 257, 262][random.below(7)],
         _ => [0, 1, 4, 5, 6, 258, 515][random.below(7)],
     };
     records[at][2..HEADER].copy_from_slice(&kind.to_le_bytes());
@@ -431,7 +450,10 @@ fn wrong_length(random: &mut Random, net: &Net) -> Broken {
     let mut records = table_records(net);
     let at = random.below(records.len());
     let last = records.len() - 1;
-    records[at] = if at == 0 {
+    records[at] = if at < conditions_at(net) {
+        let length = [0, 2, 3, 257][random.below(4)];
+        record_bytes(RULE, &random.bytes(length))
+    } else if at == conditions_at(net) {
         let length = [0, 257, 258, 1000][random.below(4)];
         record_bytes(CONDITIONS, &vec![0; length])
     } else if at == last {
@@ -446,16 +468,90 @@ fn wrong_length(random: &mut Random, net: &Net) -> Broken {
     }
 }
 
-/// A condition byte above 1: 4.
+/// A byte of a condition or of the rule that is above 1: 4.
 fn wrong_byte(random: &mut Random, net: &Net) -> Broken {
     let mut records = table_records(net);
-    let place = HEADER + random.below(net.persistent.len());
-    records[0][place] = [2, 3, 128, 255][random.below(4)];
+    let at = random.below(conditions_at(net) + 1);
+    let place = HEADER + random.below(records[at].len() - HEADER);
+    records[at][place] = [2, 3, 128, 255][random.below(4)];
     Broken {
         records,
-        at: 0,
+        at,
         number: 4,
     }
+}
+
+/// A Rule record where none may stand: after another one, or after the conditions: 2.
+fn misplaced_rule(random: &mut Random, net: &Net) -> Broken {
+    let mut records = table_records(net);
+    let first = conditions_at(net).max(1);
+    let at = random.between(first, records.len() - 1);
+    let rule = [[0], [1], [2]][random.below(3)];
+    records.insert(at, record_bytes(RULE, &rule[..random.between(0, 1)]));
+    Broken {
+        records,
+        at,
+        number: 2,
+    }
+}
+
+/// The conditions made a Rule record, in a table that has none: 3, or where there is one condition, 2 at what follows, since there the
+/// conditions are due.
+fn conditions_as_rule(net: &Net) -> Broken {
+    let bare = Net {
+        rule: None,
+        ..net.clone()
+    };
+    let mut records = table_records(&bare);
+    records[0][2..HEADER].copy_from_slice(&RULE.to_le_bytes());
+    let (at, number) = match net.persistent.len() {
+        1 => (1, 2),
+        _ => (0, 3),
+    };
+    Broken {
+        records,
+        at,
+        number,
+    }
+}
+
+/// The table of a net that states a rule, cut within its Rule record or right after it: 1 at 0, or where the conditions are due.
+fn cut_rule(random: &mut Random, net: &Net) -> Damaged {
+    let mut bytes = table_records(net).concat();
+    let length = random.between(0, HEADER + 1);
+    bytes.truncate(length);
+    let place = if length > HEADER { length } else { 0 };
+    Damaged {
+        bytes,
+        refusal: Refusal::at(1, place),
+    }
+}
+
+/// The table of a net with a Rule record that is broken in one of the ways that there are.
+fn damaged_rule(random: &mut Random, net: &Net) -> Damaged {
+    let rule = [Rule::Paper, Rule::Old][random.below(2)];
+    let ruled = Net {
+        rule: Some(rule),
+        ..net.clone()
+    };
+    let mut records = table_records(&ruled);
+    let (payload, number): (&[u8], u8) = match random.below(5) {
+        0 => return cut_rule(random, &ruled),
+        1 => {
+            let broken = misplaced_rule(random, &ruled);
+            return finished(random, broken);
+        }
+        2 => (&[], 3),
+        3 => (&[[0, 0], [1, 0], [2, 2]][random.below(3)], 3),
+        _ => (&[[2], [3], [255]][random.below(3)], 4),
+    };
+    records[0] = record_bytes(RULE, payload);
+    let broken = Broken {
+        records,
+        at: 0,
+        number,
+    };
+    finished(random, broken)
 }
 
 /// A list that repeats, descends or names no condition.
@@ -498,7 +594,7 @@ fn unsound_list(random: &mut Random, net: &Net) -> Broken {
     }
     Broken {
         records: table_records(&bad),
-        at: at + 1,
+        at: conditions_at(net) + 1 + at,
         number: 5,
     }
 }
@@ -525,7 +621,7 @@ fn one_event_more(random: &mut Random, net: &Net) -> Broken {
 /// The net's records with one event's record put in, or in place of another where the table is full.
 fn with_event(random: &mut Random, net: &Net, record: Vec<u8>, number: u8) -> Broken {
     let mut records = table_records(net);
-    let at = 1 + random.below(net.events.len());
+    let at = conditions_at(net) + 1 + random.below(net.events.len());
     if net.events.len() == MOST_EVENTS {
         records.remove(at);
     }
@@ -569,15 +665,18 @@ fn crowded_event(random: &mut Random, net: &Net) -> Broken {
 
 /// A net damaged in one known way, of every way there is.
 pub fn damaged(random: &mut Random, net: &Net) -> Damaged {
-    let broken = match random.below(10) {
+    let broken = match random.below(13) {
         0 => return cut(random, net),
         1 => return trailing(random, net),
-        2 => wrong_kind(random, net),
-        3 => wrong_length(random, net),
-        4 => wrong_byte(random, net),
-        5 | 6 => unsound_list(random, net),
-        7 => one_event_more(random, net),
-        8 if net.persistent.len() <= 256 - 17 => crowded_event(random, net),
+        2 => return damaged_rule(random, net),
+        3 => misplaced_rule(random, net),
+        4 => conditions_as_rule(net),
+        5 => wrong_kind(random, net),
+        6 => wrong_length(random, net),
+        7 => wrong_byte(random, net),
+        8 | 9 => unsound_list(random, net),
+        10 => one_event_more(random, net),
+        11 if net.persistent.len() <= 256 - 17 => crowded_event(random, net),
         _ => empty_event(random, net),
     };
     finished(random, broken)

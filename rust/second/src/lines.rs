@@ -11,7 +11,7 @@ use crate::lent::{list_of, marking_of};
 use crate::records::MOST_STEPS;
 use crate::refusal::{Answer, Refusal};
 use crate::repeats::{repeats, Repeat};
-use crate::table::{table_bytes, Event, Net};
+use crate::table::{table_bytes, Event, Net, Rule};
 use crate::unfolding::{counts, judge_unfolding, unfold, Marker, UnfoldedEvent, Unfolding};
 
 /// The most unfolded events of a net in a line, so that a line is checked quickly.
@@ -101,12 +101,24 @@ fn row_text(event: &Event) -> String {
     format!("({before} ↝ {after})")
 }
 
-/// A net in the notation.
+/// A net in the notation, under the rule that it has.
 fn net_text(net: &Net) -> String {
     let kinds: Vec<u8> = net.persistent.iter().map(|p| u8::from(*p)).collect();
     let rows: Vec<String> = net.events.iter().map(row_text).collect();
     let start = list_text(&net.start);
-    format!("(net {} {} {start})", list_text(&kinds), list_text(&rows))
+    let text = format!("(net {} {} {start})", list_text(&kinds), list_text(&rows));
+    match net.rule() {
+        Rule::Paper => text,
+        Rule::Old => format!("(underOld {text})"),
+    }
+}
+
+/// The same net under the paper's rule.
+fn by_paper(net: &Net) -> Net {
+    Net {
+        rule: None,
+        ..net.clone()
+    }
 }
 
 /// A marker in the notation.
@@ -294,10 +306,10 @@ fn short_walk(random: &mut Random) -> Walk {
     }
 }
 
-/// A short run of the table, mostly firing.
+/// A short run of the table that mostly fires by the paper's rule, so that the old rule often stops it.
 fn short_run(random: &mut Random, net: &Net) -> Vec<u16> {
     let way = short_walk(random);
-    walk(random, net, net.events.len(), &way)
+    walk(random, &by_paper(net), net.events.len(), &way)
 }
 
 /// A replay.
@@ -340,10 +352,11 @@ fn repeat_line(random: &mut Random, kind: Repeat) -> Option<Line> {
     wanted.then(|| lift_line(&net, &run))
 }
 
-/// A projection.
+/// A projection of a run that mostly fires by the paper's rule.
 fn project_line(random: &mut Random, net: &Net, unfolding: &Unfolding) -> Line {
     let way = short_walk(random);
-    let run = walk(random, unfolding, unfolding.events.len(), &way);
+    let walked = Unfolding::of(&by_paper(net));
+    let run = walk(random, &walked, walked.events.len(), &way);
     let answer = judge_unfolding(net).and_then(|()| projected(unfolding, &run));
     let text = |run: &Vec<u16>| list_text(run);
     answer_line(
@@ -365,43 +378,61 @@ fn exchange_line(random: &mut Random, net: &Net) -> Line {
     answer_line(net, ("exchanges", "notExchanged"), &asked, answer, text)
 }
 
-/// A random line that may be of the wanted kind.
-fn candidate(random: &mut Random, kind: &str) -> Option<Line> {
-    let net = small_net(random);
-    if counts(&net).events > MOST_EVENTS {
+/// A random line on a net that may be of the wanted kind; what it asks does not depend on the net's rule.
+fn candidate(random: &mut Random, net: &Net, kind: &str) -> Option<Line> {
+    if counts(net).events > MOST_EVENTS {
         return None;
     }
-    let unfolding = Unfolding::of(&net);
+    let unfolding = Unfolding::of(net);
     match kind {
-        "counts" => Some(counts_line(&net)),
-        "lists" => lists_line(random, &net, &unfolding),
-        "behind" => behind_line(random, &net, &unfolding),
-        "numbered" => numbered_line(random, &net, &unfolding),
-        "unfolded" | "notUnfolded" => Some(unfolding_line(&net)),
-        "stops" | "fires" => Some(firing_line(random, &net)),
-        "stopsUnfolded" => Some(unfolded_firing_line(random, &net, &unfolding)),
-        "plays" | "notPlayed" => Some(replay_line(random, &net)),
+        "counts" => Some(counts_line(net)),
+        "lists" => lists_line(random, net, &unfolding),
+        "behind" => behind_line(random, net, &unfolding),
+        "numbered" => numbered_line(random, net, &unfolding),
+        "unfolded" | "notUnfolded" => Some(unfolding_line(net)),
+        "stops" | "fires" => Some(firing_line(random, net)),
+        "stopsUnfolded" => Some(unfolded_firing_line(random, net, &unfolding)),
+        "plays" | "notPlayed" => Some(replay_line(random, net)),
         "lifts" | "notLifted" => {
-            let run = short_run(random, &net);
-            Some(lift_line(&net, &run))
+            let run = short_run(random, net);
+            Some(lift_line(net, &run))
         }
-        "projects" | "notProjected" => Some(project_line(random, &net, &unfolding)),
-        _ => Some(exchange_line(random, &net)),
+        "projects" | "notProjected" => Some(project_line(random, net, &unfolding)),
+        _ => Some(exchange_line(random, net)),
     }
 }
 
-/// A random line that has what is wanted at a place of the round: a kind and a number, or after those a kind of repeat.
-fn wanted_line(random: &mut Random, place: usize) -> Option<Line> {
-    let Some((kind, number)) = KINDS.get(place) else {
-        return repeat_line(random, Repeat::ALL[place - KINDS.len()].0);
+/// A random line of a kind on a 12 that is the old rule's alone, if the paper's rule answers something else where the same is asked.
+fn old_line(random: &mut Random, kind: &str) -> Option<Line> {
+    let paper = by_paper(&small_net(random));
+    let old = Net {
+        rule: Some(Rule::Old),
+        ..paper.clone()
     };
-    candidate(random, kind).filter(|line| line.kind == *kind && line.number == *number)
+    let by_paper = candidate(&mut random.clone(), &paper, kind)?;
+    let line = candidate(random, &old, kind)?;
+    let wanted = line.kind == kind && line.number == 12 && by_paper.number != 12;
+    wanted.then_some(line)
+}
+
+/// A random line that has what is wanted at a place of the round: a kind and a number, or after those a kind of repeat, or after these a
+/// kind that tells of the old rule.
+fn wanted_line(random: &mut Random, place: usize) -> Option<Line> {
+    if let Some((kind, number)) = KINDS.get(place) {
+        let net = small_net(random);
+        let line = candidate(random, &net, kind);
+        return line.filter(|line| line.kind == *kind && line.number == *number);
+    }
+    match Repeat::ALL.get(place - KINDS.len()) {
+        Some((repeat, _)) => repeat_line(random, *repeat),
+        None => old_line(random, OWN[place - KINDS.len() - Repeat::ALL.len()]),
+    }
 }
 
 /// The lines of one round.
-pub const ROUND: usize = KINDS.len() + Repeat::ALL.len();
+pub const ROUND: usize = KINDS.len() + Repeat::ALL.len() + OWN.len();
 
-/// So many lines that go round all kinds, and all kinds of repeats.
+/// So many lines that go round all kinds, all kinds of repeats, and all kinds on what the old rule alone stops.
 pub fn lines(count: usize, seed: u64) -> Vec<String> {
     let mut random = Random::new(seed);
     let mut lines = Vec::with_capacity(count);
@@ -417,16 +448,22 @@ fn long_run() -> (&'static str, Vec<u16>) {
     ("(replicate 4097 0)", vec![0; MOST_STEPS + 1])
 }
 
-/// Lines on a run of over 4,096 steps, asked by the calls since they judge the length.
-fn length_lines() -> Vec<Line> {
-    let net = Net {
+/// One persistent condition that holds, and one event that reads and marks it.
+fn own_net() -> Net {
+    Net {
         persistent: vec![true],
         events: vec![Event {
             preconditions: vec![0],
             postconditions: vec![0],
         }],
         start: vec![0],
-    };
+        rule: None,
+    }
+}
+
+/// Lines on a run of over 4,096 steps, asked by the calls since they judge the length.
+fn length_lines() -> Vec<Line> {
+    let net = own_net();
     let table = table_bytes(&net);
     let (asked, mut run) = long_run();
     let mut output = run.clone();
@@ -523,7 +560,7 @@ use Rattle.model.specs.Net.{Net, Stop, unknown, lacks, meets, stopNumber, stopC
 use Rattle.model.specs.Runs.{atStart, byEvent, opening, Played, ends, refused, replay}
 use Rattle.model.specs.Unfolding.{basic}
 use Rattle.model.specs.Across.{numberOf, placeOf, byOf, Answer, run, refusal, lift, project, exchange}
-use Rattle.model.specs.Examples.{Line, passes, net, _↝_, counts, lists, behind, numbered, unfolded, notUnfolded, fires, plays, lifts, projects, exchanges}
+use Rattle.model.specs.Examples.{Line, passes, net, underOld, _↝_, counts, lists, behind, numbered, unfolded, notUnfolded, fires, plays, lifts, projects, exchanges}
 ";
 
 /// The kinds of lines of the written module, and how each is computed.
@@ -590,7 +627,7 @@ pub fn specs_module(lines: &[String], seed: u64) -> String {
     );
     for (chunk, lines) in lines.chunks(CHUNK).enumerate() {
         text.push_str(&format!(
-            "\n-- Lines from {} on.\nunfoldable pub compared{chunk} : List Compared\nunfolding net\ncompared{chunk} =\n",
+            "\n-- Lines from {} on.\nunfoldable pub compared{chunk} : List Compared\nunfolding net underOld\ncompared{chunk} =\n",
             chunk * CHUNK
         ));
         let joined = lines.join("\n    ∷ ");

@@ -8,6 +8,7 @@ pub const EVENT: u16 = 2;
 pub const MARKING: u16 = 3;
 pub const RUN: u16 = 4;
 pub const LIFTED: u16 = 5;
+pub const RULE: u16 = 6;
 
 /// The most steps that a run may have.
 pub const MOST_STEPS: usize = 4096;

@@ -1,11 +1,11 @@
-//! Tables: the judge of a table's bytes, and the net that an accepted table spells (01, Table records).
+//! Tables: the judge of a table's bytes, and the net that an accepted table spells (01, Table records; 02, No. 4).
 
 use std::ops::Range;
 
 use crate::records::{
-    is_even, record_at, record_bytes, word_bytes, words, Record, CONDITIONS, EVENT, MARKING,
+    is_even, record_at, record_bytes, word_bytes, words, Record, CONDITIONS, EVENT, MARKING, RULE,
 };
-use crate::refusal::{require, Answer};
+use crate::refusal::{refuse, require, Answer};
 
 /// The most events that a table may have.
 pub const MOST_EVENTS: usize = 256;
@@ -20,12 +20,38 @@ pub struct Event {
     pub postconditions: Vec<u16>,
 }
 
-/// A net with persistent conditions and a start.
+/// The rule by which ordinary conditions block: the paper's, or the old one, by which a postcondition that holds does so even where it
+/// is a precondition too (02, No. 4).
+#[derive(Clone, Copy, Debug, PartialEq, Eq, PartialOrd, Ord)]
+pub enum Rule {
+    Paper,
+    Old,
+}
+
+impl Rule {
+    /// The byte that stands for the rule.
+    pub fn byte(self) -> u8 {
+        match self {
+            Rule::Paper => 0,
+            Rule::Old => 1,
+        }
+    }
+}
+
+/// A net with persistent conditions and a start, and the rule that its table states, if it states one.
 #[derive(Clone, Debug, Default, PartialEq, Eq)]
 pub struct Net {
     pub persistent: Vec<bool>,
     pub events: Vec<Event>,
     pub start: Vec<u16>,
+    pub rule: Option<Rule>,
+}
+
+impl Net {
+    /// The rule of the net: the paper's where none is stated.
+    pub fn rule(&self) -> Rule {
+        self.rule.unwrap_or(Rule::Paper)
+    }
 }
 
 /// Where the two lists of an event stand in the table.
@@ -47,6 +73,16 @@ pub struct Table {
 fn is_sound_list(list: &[u16], conditions: usize) -> bool {
     list.windows(2).all(|pair| pair[0] < pair[1])
         && list.iter().all(|b| usize::from(*b) < conditions)
+}
+
+/// The rule of a Rule record.
+fn read_rule(record: &Record) -> Answer<Rule> {
+    require(record.payload.len() == 1, 3, record.offset)?;
+    match record.payload[0] {
+        0 => Ok(Rule::Paper),
+        1 => Ok(Rule::Old),
+        _ => refuse(4, record.offset),
+    }
 }
 
 /// The kinds of the conditions, true for persistent.
@@ -106,11 +142,21 @@ fn shifted(part: Range<usize>, by: usize) -> Range<usize> {
     part.start + by..part.end + by
 }
 
+/// The rule of the Rule record that may stand first, and the record after it, where the conditions are due.
+fn read_front(bytes: &[u8]) -> Answer<(Option<Rule>, Record<'_>)> {
+    let first = record_at(bytes, 0)?;
+    if first.kind != RULE {
+        return Ok((None, first));
+    }
+    let rule = read_rule(&first)?;
+    Ok((Some(rule), record_at(bytes, first.end())?))
+}
+
 /// The judge of a table: the table that the bytes spell, or the refusal of the first bad record (1 to 9).
 pub fn read_table(bytes: &[u8]) -> Answer<Table> {
-    let first = record_at(bytes, 0)?;
-    let persistent = read_conditions(&first)?;
-    let mut offset = first.end();
+    let (rule, conditions) = read_front(bytes)?;
+    let persistent = read_conditions(&conditions)?;
+    let mut offset = conditions.end();
     let mut events = Vec::new();
     let mut parts = Vec::new();
     loop {
@@ -125,6 +171,7 @@ pub fn read_table(bytes: &[u8]) -> Answer<Table> {
                     persistent,
                     events,
                     start,
+                    rule,
                 },
                 parts,
                 start_part: record.payload_offset()..record.end(),
@@ -151,10 +198,12 @@ pub fn event_bytes(event: &Event) -> Vec<u8> {
     record_bytes(EVENT, &word_bytes(&numbers))
 }
 
-/// The records of a net's table, in their order.
+/// The records of a net's table, in their order; a Rule record is among them where the net states a rule.
 pub fn table_records(net: &Net) -> Vec<Vec<u8>> {
+    let rule = net.rule.map(|rule| record_bytes(RULE, &[rule.byte()]));
     let kinds: Vec<u8> = net.persistent.iter().map(|p| u8::from(*p)).collect();
-    let mut records = vec![record_bytes(CONDITIONS, &kinds)];
+    let mut records: Vec<Vec<u8>> = rule.into_iter().collect();
+    records.push(record_bytes(CONDITIONS, &kinds));
     records.extend(net.events.iter().map(event_bytes));
     records.push(record_bytes(MARKING, &word_bytes(&net.start)));
     records

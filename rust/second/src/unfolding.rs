@@ -1,8 +1,8 @@
-//! The unfolding: all unfolded conditions and events as lists in number order (01, Unfolding; the paper, section 6.1).
+//! The unfolding: all unfolded conditions and events as lists in number order (01, Unfolding; 02, No. 4; the paper, section 6.1).
 
 use crate::game::Game;
 use crate::refusal::{refuse, require, Answer};
-use crate::table::{Event, Net};
+use crate::table::{Event, Net, Rule};
 
 /// The most unfolded conditions, and the most unfolded events.
 pub const MOST_UNFOLDED: usize = 65_535;
@@ -294,6 +294,14 @@ impl Unfolding {
 impl Game for Unfolding {
     fn persistent(&self) -> &[bool] {
         &self.none_persistent
+    }
+
+    /// What stands for an ordinary condition follows the table's rule, and a copy of a persistent one keeps the paper's.
+    fn rule_of(&self, condition: u16) -> Rule {
+        match self.conditions[usize::from(condition)].copy {
+            None => self.net.rule(),
+            Some(_) => Rule::Paper,
+        }
     }
 
     fn event(&self, number: u16) -> Option<Event> {

@@ -1,11 +1,18 @@
 //! The statements of a text, before names are looked up.
 
 use crate::near::nearest;
+use crate::table::{OLD, PAPER};
 use crate::tokens::{tokens, Piece, Token};
 use crate::trouble::{trouble, Place, Trouble};
 
 /// Words that begin a statement and so name nothing.
 const RESERVED: [&str; 3] = ["conditions", "start", "run"];
+
+/// The word that begins the table's rule where no list of an event follows; it may be a name all the same.
+const RULE: &str = "rule";
+
+/// The rules by their words.
+const RULES: [(&str, u8); 2] = [("old", OLD), ("paper", PAPER)];
 
 /// Why a reserved word is no name, and what would be one.
 fn no_name(word: &str) -> String {
@@ -15,6 +22,23 @@ fn no_name(word: &str) -> String {
 /// What is expected after a reserved word, told so that who meant the word as a name sees why.
 fn since(expected: &str, word: &str) -> String {
     format!("{expected}, since `{word}` {}", no_name(word))
+}
+
+/// The byte of the rule that a piece is: by its word, or the byte itself.
+fn rule_byte(piece: &Piece) -> Option<u8> {
+    match piece {
+        Piece::Name(name) => {
+            let rule = RULES.into_iter().find(|(word, _)| word == name);
+            rule.map(|(_, byte)| byte)
+        }
+        Piece::Number(number) => u8::try_from(*number).ok(),
+        _ => None,
+    }
+}
+
+/// The word that is likely meant, in brackets; nothing where none is near.
+fn meant(near: Option<&str>) -> String {
+    near.map_or_else(String::new, |word| format!(" (is `{word}` meant?)"))
 }
 
 /// What an element of a list is written as.
@@ -43,6 +67,7 @@ pub struct List {
 /// A statement of a text.
 #[derive(Clone, Debug, PartialEq, Eq)]
 pub enum Statement {
+    Rule(Place, u8),
     Conditions(List),
     Event(Element, List, List),
     Start(Place, List),
@@ -131,6 +156,15 @@ impl Parser {
             Piece::Name(_) | Piece::Number(_) => self.ahead(1).piece == Piece::Colon,
             _ => false,
         }
+    }
+
+    /// A rule comes next: its word and a colon, and after that, on the same line or a later one, no list of an event.
+    fn at_rule(&self) -> bool {
+        let mut rest = self.tokens[self.at..].iter().map(|token| &token.piece);
+        let named = rest.next() == Some(&Piece::Name(RULE.to_string()));
+        named
+            && rest.next() == Some(&Piece::Colon)
+            && rest.find(|piece| **piece != Piece::LineEnd) != Some(&Piece::Open)
     }
 
     /// What comes so many further on shows that the word before it is meant as an element of a list.
@@ -312,21 +346,47 @@ impl Parser {
         Ok(Statement::Run(place, name, list))
     }
 
-    /// The trouble that an event lacks a piece; if its name is near a reserved word, that may be meant.
-    fn event_lacks<T>(&self, piece: &Piece, begun: &Piece) -> Result<T, Trouble> {
-        let word = match begun {
-            Piece::Name(name) => nearest(&name.to_lowercase(), RESERVED.into_iter()),
+    /// The trouble that no rule comes after its word; one that is nearly written so may be meant.
+    fn no_rule<T>(&self) -> Result<T, Trouble> {
+        let words = RULES.into_iter().map(|(word, _)| word);
+        let near = match self.piece() {
+            Piece::Name(name) => nearest(&name.to_lowercase(), words),
             _ => None,
         };
-        let meant = word.map_or_else(String::new, |word| format!(" (is `{word}` meant?)"));
-        let (piece, begun) = (piece.told(), begun.told());
-        self.unexpected(&format!("{piece}, since {begun} begins an event{meant}"))
+        let expected = "`old`, `paper` or a number of at most 255, since `rule:` is the table's rule where no `{` follows";
+        trouble(self.place(), expected, self.piece().told() + &meant(near))
+    }
+
+    /// Takes a `rule` statement: its word and colon, then the rule's own word or its byte on the same line.
+    fn rule(&mut self, place: Place) -> Result<Statement, Trouble> {
+        self.at += 2;
+        let Some(byte) = rule_byte(self.piece()) else {
+            return self.no_rule();
+        };
+        self.at += 1;
+        self.line_end()?;
+        Ok(Statement::Rule(place, byte))
+    }
+
+    /// The trouble that an event lacks a piece; if its name is near another word that begins a statement, that may be meant.
+    fn event_lacks<T>(&self, piece: &Piece, begun: &Piece) -> Result<T, Trouble> {
+        let words = [RULE].into_iter().chain(RESERVED);
+        let near = match begun {
+            Piece::Name(name) if name != RULE => nearest(&name.to_lowercase(), words),
+            _ => None,
+        };
+        let begins = match (piece, begun) {
+            (Piece::Colon, Piece::Name(name)) if name == RULE => "the table's rule or an event",
+            _ => "an event",
+        };
+        let (piece, begun, meant) = (piece.told(), begun.told(), meant(near));
+        self.unexpected(&format!("{piece}, since {begun} begins {begins}{meant}"))
     }
 
     /// Takes an event: its name or number, and its two lists.
     fn event(&mut self) -> Result<Statement, Trouble> {
         let place = self.place();
-        let expected = "`conditions:`, `start:`, `run` or an event's name";
+        let expected = "`conditions:`, `start:`, `run`, `rule:` or an event's name";
         let written = self.written(expected, false)?;
         let label = Element {
             written,
@@ -354,6 +414,9 @@ impl Parser {
     /// Takes a statement.
     fn statement(&mut self) -> Result<Statement, Trouble> {
         let place = self.place();
+        if self.at_rule() {
+            return self.rule(place);
+        }
         let word = self.reserved();
         self.at += usize::from(word.is_some());
         match word {

@@ -13,7 +13,7 @@ pub use meaning::read;
 pub use near::nearest;
 pub use records::{steps_of, Part};
 pub use show::{list_text, set_text};
-pub use table::{Condition, Event, Run, Table};
+pub use table::{Condition, Event, Run, Table, OLD, PAPER};
 pub use trouble::{quoted, Place, Trouble};
 
 /// Where a byte is a control character other than a tab and the ends of lines.

@@ -197,12 +197,16 @@ impl Meaning {
         Ok(())
     }
 
-    /// Fills the lists of events, the start and the runs.
+    /// Fills the rule, the lists of events, the start and the runs.
     fn fill(&mut self, statements: &[Statement]) -> Result<(), Trouble> {
         let mut event = 0;
         for statement in statements {
             match statement {
                 Statement::Conditions(_) => {}
+                Statement::Rule(place, byte) => {
+                    self.table.rule = Some(*byte);
+                    self.table.rule_place = *place;
+                }
                 Statement::Event(_, before, after) => {
                     let (pre, post) = (self.list(before)?, self.list(after)?);
                     let both = pre.len() + post.len();
@@ -235,11 +239,15 @@ fn fits(count: usize, most: usize, of: &str, place: Place) -> Result<(), Trouble
     )
 }
 
-/// Conditions are stated, and the start is stated once.
+/// Conditions are stated, the start is stated once, and the rule at most once.
 fn judge_parts(statements: &[Statement], end: Place) -> Result<(), Trouble> {
     let start = |s: &&Statement| matches!(s, Statement::Start(..));
     if let Some(Statement::Start(place, _)) = statements.iter().filter(start).nth(1) {
         return trouble(*place, "one `start:`", "a second one");
+    }
+    let rule = |s: &&Statement| matches!(s, Statement::Rule(..));
+    if let Some(Statement::Rule(place, _)) = statements.iter().filter(rule).nth(1) {
+        return trouble(*place, "one `rule:` at most", "a second one");
     }
     if !statements
         .iter()

@@ -15,10 +15,12 @@ const CONDITIONS: u16 = 1;
 const EVENT: u16 = 2;
 const MARKING: u16 = 3;
 const RUN: u16 = 4;
+const RULE: u16 = 6;
 
 /// What a record of a table holds.
 #[derive(Clone, Copy, Debug, PartialEq, Eq)]
 pub enum Part {
+    Rule,
     Conditions,
     Event(usize),
     Start,
@@ -59,7 +61,9 @@ impl Table {
             .iter()
             .map(|c| u8::from(c.persistent))
             .collect();
-        let mut records = vec![(Part::Conditions, record(CONDITIONS, &kinds))];
+        let rule = self.rule.map(|byte| (Part::Rule, record(RULE, &[byte])));
+        let mut records: Vec<(Part, Vec<u8>)> = rule.into_iter().collect();
+        records.push((Part::Conditions, record(CONDITIONS, &kinds)));
         for (number, event) in self.events.iter().enumerate() {
             records.push((Part::Event(number), event_record(event)));
         }
@@ -89,7 +93,11 @@ impl Table {
 
     /// The table that the bytes of an accepted table spell, without names; none for bytes that spell no table.
     pub fn of_bytes(bytes: &[u8]) -> Option<Table> {
-        let (CONDITIONS, kinds, mut rest) = split(bytes)? else {
+        let (rule, after_rule) = match split(bytes)? {
+            (RULE, [byte], after) => (Some(*byte), after),
+            _ => (None, bytes),
+        };
+        let (CONDITIONS, kinds, mut rest) = split(after_rule)? else {
             return None;
         };
         let condition = |byte: &u8| Condition {
@@ -97,6 +105,7 @@ impl Table {
             ..Condition::default()
         };
         let mut table = Table {
+            rule,
             conditions: kinds.iter().map(condition).collect(),
             ..Table::default()
         };

@@ -2,7 +2,7 @@
 
 use std::fmt::Write;
 
-use crate::table::{Condition, Run, Table};
+use crate::table::{Condition, Run, Table, OLD, PAPER};
 
 /// The columns that a line of text fills at most, if its words allow.
 const WIDTH: usize = 100;
@@ -112,9 +112,19 @@ impl Table {
         format!("conditions: {}\n", joined(&words, 12))
     }
 
+    /// The `rule:` statement, where a rule is stated.
+    fn rule_text(&self) -> String {
+        match self.rule {
+            None => String::new(),
+            Some(PAPER) => "rule: paper\n\n".to_string(),
+            Some(OLD) => "rule: old\n\n".to_string(),
+            Some(byte) => format!("rule: {byte}\n\n"),
+        }
+    }
+
     /// The table and its runs as text.
     pub fn text(&self) -> String {
-        let mut text = self.conditions_text() + "\n";
+        let mut text = self.rule_text() + &self.conditions_text() + "\n";
         for (event, number) in self.events.iter().zip(0..) {
             let name = self.event_name(number);
             let pre = joined(&self.words(&event.preconditions), name.chars().count() + 3);

@@ -28,9 +28,16 @@ pub struct Run {
     pub place: Place,
 }
 
+/// The byte of the paper's rule, and that of the old one.
+pub const PAPER: u8 = 0;
+pub const OLD: u8 = 1;
+
 /// A table and the runs that stand with it.
 #[derive(Clone, Debug, Default, PartialEq, Eq)]
 pub struct Table {
+    /// The byte of the rule that is stated, if one is.
+    pub rule: Option<u8>,
+    pub rule_place: Place,
     pub conditions: Vec<Condition>,
     pub events: Vec<Event>,
     pub start: Vec<u16>,
@@ -47,6 +54,11 @@ fn named(name: Option<&Option<String>>, number: u16) -> String {
 }
 
 impl Table {
+    /// The table follows the old rule.
+    pub fn is_old(&self) -> bool {
+        self.rule == Some(OLD)
+    }
+
     /// What a condition is called: its name, or its number where it has none.
     pub fn condition_name(&self, number: u16) -> String {
         let condition = self.conditions.get(usize::from(number));

@@ -86,8 +86,122 @@ fn runs_in_many_layouts() {
     assert_eq!(steps_of(&net.runs[0].bytes()), Some(vec![0, 1, 0, 1, 0]));
 }
 
+/// A text without a rule, into which a statement is put before a line, counted from 0.
+fn with_statement(line: usize, statement: &str) -> String {
+    let mut lines: Vec<&str> = NET_A.lines().collect();
+    lines.insert(line, statement);
+    lines.join("\n")
+}
+
+#[test]
+fn a_rule_is_packed_first_wherever_it_stands() {
+    let bare = table(NET_A);
+    assert_eq!((bare.rule, bare.is_old()), (None, false));
+    for (statement, byte) in [
+        ("rule: old", 1),
+        ("rule: paper", 0),
+        ("  rule : 1  # the racks", 1),
+        ("rule: 0", 0),
+        ("rule:2", 2),
+        ("rule: 255", 255),
+    ] {
+        for line in 0..=NET_A.lines().count() {
+            let net = table(&with_statement(line, statement));
+            assert_eq!(
+                net.bytes(),
+                [&[1, 0, 6, 0, byte], &bare.bytes()[..]].concat()
+            );
+            assert_eq!((net.rule, net.is_old()), (Some(byte), byte == 1));
+            assert_eq!(net.rule_place.line, line + 1);
+            assert_eq!(net.runs[0].bytes(), bare.runs[0].bytes());
+        }
+    }
+}
+
+#[test]
+fn a_rule_is_shown_first() {
+    let bare = Table::of_bytes(&table(NET_A).bytes()).unwrap().text();
+    assert!(bare.starts_with("conditions: "));
+    for (byte, word) in [(0, "paper"), (1, "old"), (9, "9")] {
+        let net = table(&format!("{NET_A}\nrule: {byte}\n"));
+        let shown = Table::of_bytes(&net.bytes()).unwrap();
+        assert_eq!(shown.text(), format!("rule: {word}\n\n{bare}"));
+        assert_eq!(table(&shown.text()).bytes(), net.bytes());
+        assert!(net
+            .text()
+            .starts_with(&format!("rule: {word}\n\nconditions:\n")));
+    }
+    for payload in [&[][..], &[0, 0]] {
+        let record = second::records::record_bytes(6, payload);
+        let bytes = [record, table(NET_A).bytes()].concat();
+        assert_eq!(Table::of_bytes(&bytes), None);
+    }
+    let twice = table(&with_statement(0, "rule: 1")).bytes();
+    assert_eq!(Table::of_bytes(&[&twice[..5], &twice].concat()), None);
+}
+
+#[test]
+fn rule_is_a_name_as_before() {
+    let events = "conditions: rule, old [p]\nrule: {rule} -> {old}\nstart: {rule}\nrun rule: rule";
+    for text in [
+        events.to_string(),
+        events.replace("rule: {rule} -> ", "rule:\n\n  {rule}\n -> "),
+        events.replace("rule: {rule} -> ", "rule : # whose?\n{rule\n} -> "),
+        events.replace("rule, old", "\n  rule\n  old"),
+        events.replace("{rule} -> {old}", "{\n  rule\n} -> {\nold\n}"),
+        events.replace("start: {rule}", "start: {\n  rule\n}"),
+        events.replace("run rule: rule", "run rule:\n\n  rule\n"),
+    ] {
+        let net = table(&text);
+        assert_eq!((net.rule, net.events.len()), (None, 1), "{text}");
+        assert_eq!(net.bytes(), table(events).bytes(), "{text}");
+        assert_eq!(net.event_name(0), "rule");
+        assert_eq!(net.condition_name(0), "rule");
+        assert_eq!(
+            (net.run_called("rule"), &net.runs[0].steps[..]),
+            (Some(0), &[0][..])
+        );
+    }
+    let both = table(&events.replace("start:", "rule: old\nstart:"));
+    assert_eq!((both.rule, both.event_name(0).as_str()), (Some(1), "rule"));
+    assert_eq!(both.bytes()[5..], table(events).bytes());
+    let after_list = "conditions:\n  a\n  rule\nrule: old\nx: {a} -> {}\nstart: {}\nrun r: x\nrule: {a} -> {rule}";
+    let net = table(after_list);
+    assert_eq!((net.conditions.len(), net.events.len()), (2, 2));
+    assert_eq!((net.rule, net.rule_place.line), (Some(1), 4));
+}
+
+#[test]
+fn troubles_of_rules() {
+    let whose = "since `rule:` is the table's rule where no `{` follows";
+    for (text, expected) in [
+        ("rule:", format!("line 4, column 6: expected `old`, `paper` or a number of at most 255, {whose}, found the end of the text")),
+        ("rule:\nold", format!("line 4, column 6: expected `old`, `paper` or a number of at most 255, {whose}, found the end of the line")),
+        ("rule: Old", format!("line 4, column 7: expected `old`, `paper` or a number of at most 255, {whose}, found `Old` (is `old` meant?)")),
+        ("rule: papre", format!("line 4, column 7: expected `old`, `paper` or a number of at most 255, {whose}, found `papre` (is `paper` meant?)")),
+        ("rule: a -> {}", format!("line 4, column 7: expected `old`, `paper` or a number of at most 255, {whose}, found `a`")),
+        ("rule: 256", format!("line 4, column 7: expected `old`, `paper` or a number of at most 255, {whose}, found `256`")),
+        ("rule: 65536", "line 4, column 7: expected a number of at most 65535, found `65536`".to_string()),
+        ("rule: 0..1", "line 4, column 8: expected the end of the line, found `..`".to_string()),
+        ("rule: old, paper", "line 4, column 10: expected the end of the line, found `,`".to_string()),
+        ("rule old", "line 4, column 6: expected `:`, since `rule` begins the table's rule or an event, found `old`".to_string()),
+        ("rule: {a}", "line 4, column 10: expected `->`, since `rule` begins an event, found the end of the text".to_string()),
+        ("Rule: old", "line 4, column 7: expected `{`, since `Rule` begins an event (is `rule` meant?), found `old`".to_string()),
+        ("ruel: old", "line 4, column 7: expected `{`, since `ruel` begins an event (is `rule` meant?), found `old`".to_string()),
+        ("rule: old\nrule: old", "line 5, column 1: expected one `rule:` at most, found a second one".to_string()),
+        ("rule: old\n\nrule: {a} -> {}\nrule: 0", "line 7, column 1: expected one `rule:` at most, found a second one".to_string()),
+        ("rule: {a} -> {}\nrule: {a} -> {}", "line 5, column 1: expected a name that no other event has, found `rule`, which stands at line 4, column 1 already".to_string()),
+    ] {
+        let before = "conditions: a, b [p]\nx: {a} -> {b}\nstart: {a}\n";
+        assert_eq!(told(format!("{before}{text}").as_bytes()), expected);
+    }
+}
+
 #[test]
 fn what_the_judge_refuses_is_packed_as_written() {
+    assert_eq!(refused("rule: 1\nconditions: a\nstart: {}"), 0);
+    assert_eq!(refused("rule: 2\nconditions: a\nstart: {}"), 4);
+    assert_eq!(refused("conditions:\nstart: {}\nrule: 255"), 4);
     assert_eq!(refused("conditions:\nstart: {}"), 3);
     assert_eq!(refused("conditions: 0..255\nstart: {}"), 0);
     assert_eq!(refused("conditions: 0..256\nstart: {}"), 3);
@@ -219,7 +333,7 @@ fn troubles_of_other_statements() {
         ("run r: x\nrun  r: x", "line 5, column 6: expected a name that no other run has, found `r`, which stands at line 4, column 5 already"),
         ("run r: x y: {a} -> {}", "line 4, column 10: expected `,` or the end of the line, found `y`"),
         ("run r: x, y: {a} -> {}", "line 4, column 12: expected `,` or the end of the line, found `:`"),
-        ("} -> {", "line 4, column 1: expected `conditions:`, `start:`, `run` or an event's name, found `}`"),
+        ("} -> {", "line 4, column 1: expected `conditions:`, `start:`, `run`, `rule:` or an event's name, found `}`"),
     ] {
         assert_eq!(told(format!("{before}{statement}").as_bytes()), expected);
     }
@@ -353,6 +467,19 @@ fn parts_are_found_by_offset() {
             None
         ]
     );
+    let ruled = table(&format!("{NET_A}rule: old\n"));
+    let parts: Vec<_> = [0, 5, 13, 53, 8]
+        .iter()
+        .map(|o| ruled.part_at(*o))
+        .collect();
+    let expected = [
+        Some(Part::Rule),
+        Some(Part::Conditions),
+        event(0),
+        Some(Part::Start),
+        None,
+    ];
+    assert_eq!(parts, expected);
 }
 
 #[test]
@@ -380,6 +507,17 @@ fn generated_tables_come_back() {
     }
 }
 
+/// Names one condition or one event `rule` now and then.
+fn name_rule(random: &mut Random, table: &mut Table) {
+    let (condition, event) = (random.below(9), random.below(9));
+    if let Some(condition) = table.conditions.get_mut(condition) {
+        condition.name = Some("rule".to_string());
+    }
+    if let Some(event) = table.events.get_mut(event) {
+        event.name = Some("rule".to_string());
+    }
+}
+
 #[test]
 fn names_come_back() {
     let mut random = Random::given();
@@ -392,6 +530,7 @@ fn names_come_back() {
         for (number, event) in shown.events.iter_mut().enumerate() {
             event.name = random.percent(60).then(|| format!("e{number}"));
         }
+        name_rule(&mut random, &mut shown);
         let text = shown.text();
         let again = table(&text);
         assert_eq!(again.bytes(), shown.bytes(), "{text}");
@@ -410,9 +549,10 @@ fn names_come_back() {
 fn damaged_text_is_told_or_taken() {
     let mut random = Random::given();
     let marks: Vec<char> = "{}[]p,:->.#\n 09az→é".chars().collect();
+    let ruled = format!("rule: old\n{}", NET_A.replace("work", "rule"));
     let mut wrong = 0;
-    for _ in 0..30_000 {
-        let mut text: Vec<char> = NET_A.chars().collect();
+    for case in 0..30_000 {
+        let mut text: Vec<char> = [NET_A, &ruled][case % 2].chars().collect();
         for _ in 0..random.between(1, 3) {
             let at = random.below(text.len());
             match random.below(3) {

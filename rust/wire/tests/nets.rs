@@ -75,6 +75,21 @@ fn limit(more_conditions: &[u8], more_events: &[(Vec<u16>, Vec<u16>)]) -> Vec<u8
     table(&[&[1; 15], more_conditions].concat(), &events, &[])
 }
 
+/// Net P, with which the two rules part: event 0 takes and puts the ordinary 0, and events 1 and 2 read [2], which events 0 and 1 mark.
+fn net_p(start: &[u16]) -> Vec<u8> {
+    let events = [
+        (vec![0], vec![0, 2]),
+        (vec![0, 2], vec![1, 2]),
+        (vec![1, 2], vec![0]),
+    ];
+    table(&[0, 0, 1], &events, start)
+}
+
+/// A table with a Rule record before it.
+fn ruled(rule: u8, table: &[u8]) -> Vec<u8> {
+    [&record(6, &[rule])[..], table].concat()
+}
+
 fn driver() -> Driver {
     Driver::open().expect("DOVETRELLIS_DRIVER names the driver, as .ci/run does")
 }
@@ -411,6 +426,111 @@ fn the_limits_hold() {
 }
 
 #[test]
+fn a_rule_record_is_judged() {
+    let (mut driver, net) = (driver(), net_a(&[0]));
+    for rule in [0, 1] {
+        assert_eq!(driver.judge(&ruled(rule, &net)), Ok(()));
+        assert_eq!(driver.judge(&ruled(rule, &[])), refused(1, 5));
+        assert_eq!(driver.judge(&ruled(rule, &net[..53])), refused(1, 53));
+        assert_eq!(driver.judge(&ruled(rule, &ruled(0, &net))), refused(2, 5));
+        assert_eq!(
+            driver.judge(&ruled(rule, &record(2, &[0; 4]))),
+            refused(2, 5)
+        );
+        let longer = [&ruled(rule, &net)[..], &[0]].concat();
+        assert_eq!(driver.judge(&longer), refused(9, 59));
+    }
+    for length in 0..5 {
+        assert_eq!(driver.judge(&record(6, &[9])[..length]), refused(1, 0));
+    }
+    for payload in [&[][..], &[0, 0], &[9; 257]] {
+        let broken = [record(6, payload), net.clone()].concat();
+        assert_eq!(driver.judge(&broken), refused(3, 0));
+    }
+    for rule in [2, 255] {
+        assert_eq!(driver.judge(&ruled(rule, &net)), refused(4, 0));
+    }
+    for (at, place) in [(8, 8), (22, 22), (48, 48)] {
+        let misplaced = [&net[..at], &record(6, &[1]), &net[at..]].concat();
+        assert_eq!(driver.judge(&misplaced), refused(2, place));
+    }
+    let last = [&net[..], &record(6, &[1])].concat();
+    assert_eq!(driver.judge(&last), refused(9, 54));
+    assert_eq!(driver.judge(&record(262, &[1])), refused(2, 0));
+}
+
+#[test]
+fn a_rule_record_moves_no_number() {
+    let mut driver = driver();
+    for rule in [0, 1] {
+        let (bare, table) = (net_a(&[0]), ruled(rule, &net_a(&[0])));
+        assert_eq!(driver.counts(&table), driver.counts(&bare));
+        assert_eq!(
+            driver.unfolded_counts(&table),
+            driver.unfolded_counts(&bare)
+        );
+        assert_eq!(whole(0, |out| driver.pre(&table, 1, out)), Ok(vec![1, 2]));
+        assert_eq!(whole(0, |out| driver.post(&table, 0, out)), Ok(vec![1, 2]));
+        assert_eq!(
+            whole(0, |out| driver.unfolded_post(&table, 2, out)),
+            Ok(vec![3, 4])
+        );
+        let run = [0, 1, 2, 1];
+        assert_eq!(lifted(&mut driver, &table, &run), Ok(vec![0, 2, 3, 2]));
+        assert_eq!(lifted_end(&mut driver, &table, &run), Ok(vec![3, 4]));
+        assert_eq!(driver.element_count(&table), Ok(38));
+    }
+}
+
+#[test]
+fn by_the_old_rule_a_condition_that_is_taken_and_put_blocks() {
+    let (mut driver, net) = (driver(), net_p(&[0]));
+    for paper in [net.clone(), ruled(0, &net)] {
+        assert_eq!(driver.can_fire(&paper, &[1, 0, 0], 0), Ok(()));
+        assert_eq!(lifted(&mut driver, &paper, &[0, 1, 2]), Ok(vec![0, 2, 5]));
+    }
+    let old = ruled(1, &net);
+    assert_eq!(driver.fire(&old, &mut [1, 0, 0], 0), refused_by(12, 0, 0));
+    assert_eq!(driver.fire(&old, &mut [0, 0, 0], 0), refused_by(11, 0, 0));
+    let mut start = [1, 0, 0, 0, 0, 0, 0, 0];
+    assert_eq!(
+        driver.unfolded_fire(&old, &mut start, 0),
+        refused_by(12, 0, 0)
+    );
+    stopped_run(&mut driver, &old, &[0, 1, 2], refused_by(12, 0, 0));
+    stopped_unfolded(&mut driver, &old, &[0, 2, 5], refused_by(12, 0, 0));
+    let marked = ruled(1, &net_p(&[0, 2]));
+    assert_eq!(lifted(&mut driver, &marked, &[1, 2]), Ok(vec![1, 4]));
+    assert_eq!(
+        lifted_end(&mut driver, &marked, &[1, 2]),
+        Ok(vec![0, 2, 3, 6, 7])
+    );
+    stopped_run(&mut driver, &marked, &[1, 2, 0], refused_by(12, 2, 0));
+    stopped_unfolded(&mut driver, &marked, &[1, 4, 0], refused_by(12, 2, 0));
+}
+
+#[test]
+fn by_the_old_rule_copies_are_given_back_and_the_lowest_is_told() {
+    let mut driver = driver();
+    let own = ruled(1, &net_c());
+    assert_eq!(lifted(&mut driver, &own, &[0, 0, 0]), Ok(vec![0, 1, 1]));
+    assert_eq!(driver.fire(&own, &mut [1], 0), Ok(()));
+    stopped_unfolded(&mut driver, &own, &[0, 0], refused_by(12, 1, 1));
+    let net = table(&[0; 4], &[(vec![1, 3], vec![0, 1, 2, 3])], &[]);
+    let old = ruled(1, &net);
+    for (mut marking, paper_stop, old_stop) in [
+        ([0, 1, 0, 1], Ok(()), refused_by(12, 1, 1)),
+        ([0, 1, 1, 1], refused_by(12, 2, 2), refused_by(12, 1, 1)),
+        ([1, 1, 0, 1], refused_by(12, 0, 0), refused_by(12, 0, 0)),
+        ([1, 1, 1, 0], refused_by(11, 3, 3), refused_by(11, 3, 3)),
+    ] {
+        assert_eq!(driver.can_fire(&net, &marking, 0), paper_stop);
+        assert_eq!(driver.can_fire(&old, &marking, 0), old_stop);
+        assert_eq!(driver.unfolded_fire(&old, &mut marking, 0), old_stop);
+    }
+}
+
+#[test]
 fn records_are_read_and_written() {
     let mut driver = driver();
     let run = [0, 1, 2, 1];
@@ -484,6 +604,34 @@ fn net_a_is_exported() {
     assert_eq!(output, [9; 21]);
     assert_eq!(driver.element(&table, 37, &mut output), Ok(20));
     assert_eq!(output[20], 9);
+}
+
+#[test]
+fn by_the_old_rule_the_second_place_is_taken_and_put_back() {
+    let (mut driver, net) = (driver(), net_p(&[0]));
+    let old = ruled(1, &net);
+    let count = driver.element_count(&net).unwrap();
+    assert_eq!(driver.element_count(&ruled(0, &net)), Ok(count));
+    assert_eq!(driver.element_count(&old), Ok(count + 2));
+    let first = 1 + 2 * 8 + 7;
+    let arcs = [
+        "p0 t0", "q0 t0", "q4 t0", "q5 t0", "t0 p0", "t0 p4", "t0 p5", "t0 q0",
+    ];
+    for (place, arc) in arcs.iter().enumerate() {
+        let found = element(&mut driver, &old, first + place as u64);
+        assert_eq!(found, Ok(part_text(14 + place, arc)));
+    }
+    let ends =
+        |text: Answer<String>| text.map(|text| text[text.find(" source=").unwrap()..].to_string());
+    for number in first + 8..count + 1 {
+        let one = ends(element(&mut driver, &old, number));
+        assert_eq!(one, ends(element(&mut driver, &net, number - 2)));
+    }
+    assert_eq!(
+        element(&mut driver, &old, count + 1),
+        Ok(CLOSES.to_string())
+    );
+    assert_eq!(element(&mut driver, &old, count + 2), refused(10, 0));
 }
 
 #[test]

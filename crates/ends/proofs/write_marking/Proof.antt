@@ -11,19 +11,19 @@ use Rattle.ends.proofs.write_marking.Tie as tie
 returns : tie.Need-returns
 returns c =
     let s = c .before .before .before .before .before .before .before .before .before .before .args .table .now in
-    let count = c .before .before .number .ensures ∙ count-is s _ _ _ _ (c .before .before .before .before .before .before .before .before .before .before .pre .judged) (c .before .before .before .before .before .before .before .before .before .before .pre .laid) (c .before .before .before .word .result) (c .before .before .before .word .ensures) in
+    let count = c .before .before .number .ensures ∙ count-is s _ _ _ _ (c .before .before .before .before .before .before .before .before .before .before .pre .judged) (c .before .before .before .before .before .before .before .before .before .before .pre .laid) (c .before .before .before .conditions .result) (c .before .before .before .conditions .ensures) in
     short _ _ _ _ _ (c .refused .ensures) count (c .before .if1 .taken)
 
 write-copies-requires : tie.Need-write-copies-requires
 write-copies-requires c κs =
     let s = c .before .before .before .before .before .before .before .before .before .before .before .before .before .before .args .table .now in
-    let count = c .before .before .before .before .before .before .number .ensures ∙ count-is s _ _ _ _ (c .before .before .before .before .before .before .before .before .before .before .before .before .before .before .pre .judged) (c .before .before .before .before .before .before .before .before .before .before .before .before .before .before .pre .laid) (c .before .before .before .before .before .before .before .word .result) (c .before .before .before .before .before .before .before .word .ensures) in
+    let count = c .before .before .before .before .before .before .number .ensures ∙ count-is s _ _ _ _ (c .before .before .before .before .before .before .before .before .before .before .before .before .before .before .pre .judged) (c .before .before .before .before .before .before .before .before .before .before .before .before .before .before .pre .laid) (c .before .before .before .before .before .before .before .conditions .result) (c .before .before .before .before .before .before .before .conditions .ensures) in
     (prepared s _ _ _ _ _ (c .before .before .before .before .before .before .before .before .before .before .before .before .before .before .pre) _ (c .before .before .before .start .ensures) _ (omega (arith, count, c .before .before .before .before .before .if1 .left)), (events-are-all s _ (c .before .before .before .before .before .before .before .before .before .before .before .before .before .before .pre .judged), c .before .before .before .before .before .before .before .before .before .before .before .before .before .before .pre .noted))
 
 returns-2 : tie.Need-returns-2
 returns-2 c =
     let s = c .before .before .before .before .before .before .before .before .before .before .before .before .before .before .before .before .before .args .table .now in
-    let count = c .before .before .before .before .before .before .before .before .before .number .ensures ∙ count-is s _ _ _ _ (c .before .before .before .before .before .before .before .before .before .before .before .before .before .before .before .before .before .pre .judged) (c .before .before .before .before .before .before .before .before .before .before .before .before .before .before .before .before .before .pre .laid) (c .before .before .before .before .before .before .before .before .before .before .word .result) (c .before .before .before .before .before .before .before .before .before .before .word .ensures) in
+    let count = c .before .before .before .before .before .before .before .before .before .number .ensures ∙ count-is s _ _ _ _ (c .before .before .before .before .before .before .before .before .before .before .before .before .before .before .before .before .before .pre .judged) (c .before .before .before .before .before .before .before .before .before .before .before .before .before .before .before .before .before .pre .laid) (c .before .before .before .before .before .before .before .before .before .before .conditions .result) (c .before .before .before .before .before .before .before .before .before .before .conditions .ensures) in
     roomy _ _ _ _ _ _ count (c .before .before .before .before .before .before .before .before .if1 .left) (c .before .before .write-copies .ensures)
 
 pub write-marking-spec : {M : Type 1} → statement M

@@ -11,7 +11,7 @@ use Rattle.model.specs.Numbering.{size}
 use Rattle.table.specs.Decoded.{netOf}
 use Rattle.unfolding.proofs.Numbered.{origin-low}
 use Rattle.segments.specs.Ranges.{ranged}
-use Rattle.firing.proofs.Fired.{step-told, all-conditions, list-inside, step-after}
+use Rattle.firing.proofs.Fired.{step-told, summed, list-inside, step-after}
 use borrow.Author.Needs.{needs}
 use Rattle.firing.proofs.step_at.Statement.{statement}
 use Rattle.firing.proofs.step_at.Tie as tie
@@ -28,7 +28,7 @@ step-over-requires : tie.Need-step-over-requires
 step-over-requires c κs =
     let n = netOf (c .before .before .before .before .before .before .before .before .before .before .before .before .before .before .before .before .before .before .before .before .args .table .now) in
     let j = sum (size n) (c .before .before .before .before .before .before .before .before .before .before .before .before .before .before .before .before .before .before .before .before .args .own .event) + c .before .before .before .before .before .before .before .before .before .before .before .before .before .before .before .before .before .before .before .before .args .own .rest in
-    (record { kept = record { in-starts = omega (arith, c .before .before .before .before .before .before .before .before .before .before .before .before .ranges .ensures .few); in-sizes = omega (arith, c .before .before .before .before .before .before .before .before .before .before .before .before .ranges .ensures .few) }; each = λ b t. omega (arith, list-inside n j false b (subst (λ (l : List ℕ). T (mem b l)) (c .before .before .before .before .before .before .before .before .before .before .before .before .ranges .ensures .numbers) t), c .before .before .before .before .before .before .before .before .before .before .before .before .before .before .before .before .before .before .before .before .pre .1 .0) }, (record { kept = record { in-starts = omega (arith, c .before .before .before .before .before .before .before .ranges2 .ensures .few); in-sizes = omega (arith, c .before .before .before .before .before .before .before .ranges2 .ensures .few) }; each = λ b t. omega (arith, list-inside n j true b (subst (λ (l : List ℕ). T (mem b l)) (c .before .before .before .before .before .before .before .ranges2 .ensures .numbers) t), c .before .before .before .before .before .before .before .before .before .before .before .before .before .before .before .before .before .before .before .before .pre .1 .0) }, omega (arith, c .before .before .before .before .before .before .before .before .before .before .before .before .before .before .before .before .before .before .before .before .pre .1 .0, all-conditions n, c .before .before .before .before .before .before .before .before .before .before .before .before .before .before .before .before .before .before .before .before .pre .0 .laid .few-conditions)))
+    (summed (c .before .before .before .before .before .before .before .before .before .before .before .before .before .before .before .before .before .before .before .before .pre .0), (c .before .before .before .before .before .before .before .before .before .before .before .before .before .before .before .before .before .before .before .before .pre .1 .0, (record { kept = record { in-starts = omega (arith, c .before .before .before .before .before .before .before .before .before .before .before .before .ranges .ensures .few); in-sizes = omega (arith, c .before .before .before .before .before .before .before .before .before .before .before .before .ranges .ensures .few) }; each = λ b t. omega (arith, list-inside n j false b (subst (λ (l : List ℕ). T (mem b l)) (c .before .before .before .before .before .before .before .before .before .before .before .before .ranges .ensures .numbers) t), c .before .before .before .before .before .before .before .before .before .before .before .before .before .before .before .before .before .before .before .before .pre .1 .0) }, record { kept = record { in-starts = omega (arith, c .before .before .before .before .before .before .before .ranges2 .ensures .few); in-sizes = omega (arith, c .before .before .before .before .before .before .before .ranges2 .ensures .few) }; each = λ b t. omega (arith, list-inside n j true b (subst (λ (l : List ℕ). T (mem b l)) (c .before .before .before .before .before .before .before .ranges2 .ensures .numbers) t), c .before .before .before .before .before .before .before .before .before .before .before .before .before .before .before .before .before .before .before .before .pre .1 .0) })))
 
 returns : tie.Need-returns
 returns c =

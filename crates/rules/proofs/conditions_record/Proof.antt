@@ -32,17 +32,17 @@ returns-4 c =
 add-part-of : tie.Need-add-part-of
 add-part-of c =
     let k = known _ _ _ _ (sym (c .before .before .before .before .before .before .header-at .ensures) ∙ c .before .before .before .before .h .given .1) in
-        omega arith
+    omega arith
 
 add-t11 : tie.Need-add-t11
 add-t11 c =
     let k = known _ _ _ _ (sym (c .before .before .before .before .before .before .before .before .before .header-at .ensures) ∙ c .before .before .before .before .before .before .before .h .given .1) in
-        omega arith
+    omega arith
 
 add-t12 : tie.Need-add-t12
 add-t12 c =
     let k = known _ _ _ _ (sym (c .before .before .before .before .before .before .before .before .before .header-at .ensures) ∙ c .before .before .before .before .before .before .before .h .given .1) in
-        omega arith
+    omega arith
 
 returns-5 : tie.Need-returns-5
 unfolding conditionsOf need

@@ -1,6 +1,6 @@
 -- `step::contact` meets its contract.
 use Rattle.words.specs.Words.{words}
-use Rattle.step.proofs.Firing.{none-meets, meets-old, meets-new}
+use Rattle.step.proofs.Firing.{none-meets, meets-old, meets-taken}
 use borrow.Author.Needs.{needs}
 use Rattle.step.proofs.contact.Statement.{statement}
 use Rattle.step.proofs.contact.Tie as tie
@@ -15,7 +15,7 @@ returns-2 c =
 
 returns-3 : tie.Need-returns-3
 returns-3 c =
-    meets-new (c .before .before .before .before .before .before .before .before .before .before .before .before .before .before .before .args .flags .now) (c .before .before .before .before .before .before .before .before .before .before .before .before .before .before .before .args .state .now) (words (c .before .before .before .before .before .before .before .before .before .before .before .before .before .before .before .args .pre .now)) (words (c .before .before .before .before .before .before .before .before .before .before .before .before .before .before .before .args .post .now)) (c .before .before .before .before .before .before .before .before .before .before .before .before .before .before .before .args .old) _ _ 256 (c .first-contact2 .ensures) (c .before .before .before .before .before .before .before .before .before .before .before .before .before .before .before .pre) (c .before .before .before .set-all .ensures) (c .before .before .before .before .before .before .if1 .left)
+    meets-taken (c .before .before .before .before .before .before .before .before .before .before .before .before .before .before .before .args .flags .now) (c .before .before .before .before .before .before .before .before .before .before .before .before .before .before .before .args .state .now) (words (c .before .before .before .before .before .before .before .before .before .before .before .before .before .before .before .args .pre .now)) (words (c .before .before .before .before .before .before .before .before .before .before .before .before .before .before .before .args .post .now)) (c .before .before .before .before .before .before .before .before .before .before .before .before .before .before .before .args .old) _ _ 256 (c .first-contact2 .ensures) (c .before .before .before .before .before .before .before .before .before .before .before .before .before .before .before .pre) (c .before .before .before .set-all .ensures) (c .before .before .before .before .before .before .if1 .left)
 
 pub contact-spec : {M : Type 1} → statement M
 contact-spec =

@@ -20,6 +20,7 @@ pub fn net(kinds: &[u8], events: &[(&[u16], &[u16])], start: &[u16]) -> Net {
         persistent: kinds.iter().map(|kind| *kind == 1).collect(),
         events: events.iter().map(|(a, z)| event(a, z)).collect(),
         start: start.to_vec(),
+        rule: None,
     }
 }
 
@@ -50,6 +51,7 @@ pub fn net_d() -> Vec<u8> {
         persistent,
         events,
         start: (10..20).collect(),
+        rule: None,
     })
 }
 

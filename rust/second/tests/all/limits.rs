@@ -103,6 +103,7 @@ fn tables_of_256_conditions_256_events_and_16_persistent_preconditions_are_accep
         persistent: vec![true; 256],
         events: vec![wide; 256],
         start: vec![0, 255],
+        rule: None,
     };
     assert_eq!(calls::judge(&table_bytes(&net)), Ok(()));
     net.events[0].preconditions = read.clone();

@@ -2,6 +2,13 @@
 
 use second::lines::{limit_lines, lines, proofs_module, specs_module, ROUND};
 
+/// A line is of a kind, on a net under either rule.
+fn is_of(line: &str, kind: &str) -> bool {
+    let line = line.trim_start_matches("example (");
+    let rest = line.strip_prefix(&format!("{kind} "));
+    rest.is_some_and(|rest| rest.starts_with("(net ") || rest.starts_with("(underOld (net "))
+}
+
 #[test]
 fn equal_seeds_give_equal_lines_of_every_kind() {
     let kinds = [
@@ -26,9 +33,7 @@ fn equal_seeds_give_equal_lines_of_every_kind() {
     let some = lines(2 * ROUND, 5);
     assert_eq!(some, lines(2 * ROUND, 5));
     for kind in kinds {
-        let begins = format!("{kind} (net ");
-        let is_of = |line: &String| line.trim_start_matches("example (").starts_with(&begins);
-        assert!(some.iter().any(is_of), "{kind}");
+        assert!(some.iter().any(|line| is_of(line, kind)), "{kind}");
     }
 }
 
@@ -36,8 +41,7 @@ fn equal_seeds_give_equal_lines_of_every_kind() {
 fn refusals_11_and_12_are_told_with_their_condition() {
     let some = lines(10 * ROUND, 5);
     let ends = |kind: &str, end: &str| {
-        let begins = format!("{kind} (net ");
-        let shown = |line: &&String| line.starts_with(&begins) && line.contains(end);
+        let shown = |line: &&String| is_of(line, kind) && line.contains(end);
         some.iter().filter(shown).count()
     };
     for kind in ["stops", "stopsUnfolded"] {
@@ -59,15 +63,37 @@ fn refusals_11_and_12_are_told_with_their_condition() {
 #[test]
 fn runs_with_repeats_are_lifted_and_refused() {
     let some = lines(10 * ROUND, 5);
-    let count = |begins: &str, has: &str| {
-        let shown = |line: &&String| line.starts_with(begins) && line.contains(has);
+    let count = |kind: &str, has: &str| {
+        let shown = |line: &&String| is_of(line, kind) && line.contains(has);
         some.iter().filter(shown).count()
     };
-    assert_eq!(count("example (lifts (net ", ""), 30 + 50);
+    assert_eq!(count("lifts", ""), 30 + 50);
     let refused: usize = (1..7)
-        .map(|place| count("notLifted (net ", &format!(" 15 {place} none")))
+        .map(|place| count("notLifted", &format!(" 15 {place} none")))
         .sum();
     assert_eq!(refused, 30);
+}
+
+#[test]
+fn nets_come_under_both_rules_and_the_old_one_alone_stops() {
+    let some = lines(10 * ROUND, 5);
+    let under_old = |line: &&String| line.contains(" (underOld (net ");
+    let old = some.iter().filter(under_old).count();
+    assert!(old > 100 && old < some.len() / 2, "{old}");
+    for round in some.chunks(ROUND) {
+        let alone = &round[ROUND - 6..];
+        assert!(alone.iter().all(|line| under_old(&line)), "{alone:?}");
+        for kind in ["stops", "stopsUnfolded"] {
+            let met = |line: &String| is_of(line, kind) && line.contains(" (some (meets ");
+            assert!(alone.iter().any(met), "{alone:?}");
+        }
+        for kind in ["notPlayed", "notLifted", "notProjected", "notExchanged"] {
+            let met = |line: &String| is_of(line, kind) && line.contains(" 12 ");
+            assert!(alone.iter().any(met), "{alone:?}");
+        }
+    }
+    let module = specs_module(&some, 5);
+    assert!(module.contains("net, underOld, ") && module.contains("unfolding net underOld\n"));
 }
 
 #[test]

@@ -12,4 +12,5 @@ mod reading_back;
 mod readings;
 mod records;
 mod refusals;
+mod rules;
 mod stops;

@@ -1,10 +1,12 @@
-//! Plain nets played without capacities, and the export against the unfolded net by what they reach (02, No. 1).
+//! Plain nets played without capacities, and the export against the unfolded net by what they reach (02, No. 1 and No. 4).
+
+use std::collections::BTreeSet;
 
 use second::export::Doubled;
 use second::game::{fire, Game};
 use second::generator::{middle_net, small_unfolding, Random};
-use second::plain::{compare, doubled_marking, read_nets, Plain};
-use second::table::Net;
+use second::plain::{compare, doubled_marking, reached_unfolded, read_nets, Plain};
+use second::table::{Net, Rule};
 use second::unfolding::{counts, unfold, Unfolding};
 
 use crate::common::*;
@@ -70,6 +72,13 @@ fn an_arc_each_way_to_a_second_place_that_is_empty_stops_the_event() {
     let stopped = format!("{both}arc q0 t0\narc t0 q0\n");
     let plain = plain_of(&stopped, &unfolding).unwrap();
     assert!(compare(&unfolding, &plain, 10).is_err());
+    let old = Net {
+        rule: Some(Rule::Old),
+        ..net(&[0], &[(&[0], &[0])], &[0])
+    };
+    let agreed = compare(&unfold(&old).unwrap(), &plain, 10).unwrap();
+    assert_eq!((agreed.markings, agreed.whole), (1, true));
+    assert_eq!(Doubled::of(&unfold(&old).unwrap()).plain(), plain);
 }
 
 #[test]
@@ -155,6 +164,70 @@ fn the_doubled_net_reaches_what_the_unfolded_net_reaches() {
     println!("{nets} nets, {whole} of them whole, {markings} markings");
     assert!(whole > 5_000, "{whole} of {nets}");
     assert!(markings > 20_000, "{markings}");
+}
+
+/// What an unfolded net reaches by the old rule, played by the lists alone: an event goes on where it finds what it takes, and finds
+/// nothing of what it puts but copies that it takes.
+fn reached_by_old(unfolding: &Unfolding) -> BTreeSet<Vec<bool>> {
+    let fired = |marking: &[bool], number: u16| {
+        let event = unfolding.event(number).unwrap();
+        let holds = |c: &u16| marking[usize::from(*c)];
+        let given_back = |c: &u16| {
+            event.preconditions.contains(c) && unfolding.conditions[usize::from(*c)].copy.is_some()
+        };
+        let mut put = event.postconditions.iter();
+        let fires =
+            event.preconditions.iter().all(holds) && put.all(|c| !holds(c) || given_back(c));
+        let mut after = marking.to_vec();
+        event
+            .preconditions
+            .iter()
+            .for_each(|c| after[usize::from(*c)] = false);
+        event
+            .postconditions
+            .iter()
+            .for_each(|c| after[usize::from(*c)] = true);
+        fires.then_some(after)
+    };
+    let mut reached = BTreeSet::from([unfolding.start()]);
+    let mut next = vec![unfolding.start()];
+    while let Some(marking) = next.pop() {
+        for number in (0..=u16::MAX).take(unfolding.events.len()) {
+            let after = fired(&marking, number).filter(|after| !reached.contains(after));
+            reached.extend(after.clone());
+            next.extend(after);
+        }
+    }
+    reached
+}
+
+#[test]
+fn by_the_old_rule_the_doubled_net_has_the_runs_of_the_unfolded_net() {
+    let mut random = Random::given();
+    let (mut whole, mut fewer, mut markings) = (0, 0, 0);
+    for _ in 0..3_000 {
+        let (mut net, _) = small_unfolding(&mut random);
+        net.rule = Some(Rule::Old);
+        let old = unfold(&net).unwrap();
+        let agreed = compare(&old, &Doubled::of(&old).plain(), MOST_MARKINGS).unwrap();
+        if !agreed.whole {
+            continue;
+        }
+        let by_lists = reached_by_old(&old);
+        let doubled: BTreeSet<Vec<u64>> = by_lists.iter().map(|m| doubled_marking(m)).collect();
+        let plain = Doubled::of(&old).plain().reached(MOST_MARKINGS);
+        assert_eq!(plain.markings.into_iter().collect::<BTreeSet<_>>(), doubled);
+        net.rule = Some(Rule::Paper);
+        let paper = reached_unfolded(&unfold(&net).unwrap(), MOST_MARKINGS);
+        whole += 1;
+        fewer += usize::from(doubled.len() < paper.markings.len());
+        markings += doubled.len();
+    }
+    let counts = [whole, fewer, markings];
+    assert!(
+        whole > 2_500 && fewer > 100 && markings > 5_000,
+        "{counts:?}"
+    );
 }
 
 #[test]

@@ -351,7 +351,7 @@ fn an_exchange_keeps_whether_a_run_lifts() {
 fn nets_near_the_limits_lift_or_give_13_or_14() {
     let mut random = Random::given();
     let (mut accepted, mut over) = (0, 0);
-    for _ in 0..40 {
+    for _ in 0..60 {
         let net = limit_net(&mut random);
         let table = table_bytes(&net);
         let run = firing_run(&mut random, &net, true);

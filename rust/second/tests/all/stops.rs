@@ -1,10 +1,11 @@
-//! The condition that stopped a step, looked for condition after condition; all else is answered as before it was told (02, No. 2).
+//! The condition that stopped a step, looked for condition after condition; all else is answered as before it was told (02, No. 2), by
+//! either rule (02, No. 4).
 
 use second::calls;
 use second::game::{fire, play, Game, Stop};
 use second::generator::{small_unfolding, walk, Random, Walk};
 use second::refusal::Refusal;
-use second::table::{table_bytes, Event, Net};
+use second::table::{table_bytes, Event, Net, Rule};
 use second::unfolding::Unfolding;
 
 use crate::common::{exchange, lent, lift, lifted_end, project, replay, replay_unfolded};
@@ -24,8 +25,39 @@ fn first_from_0(conditions: usize, is_so: impl Fn(u16) -> bool) -> Option<u16> {
     None
 }
 
+/// A net that is played, and which of its conditions block even an event that takes them.
+struct Played<'a, G> {
+    game: &'a G,
+    blocks_taker: Vec<bool>,
+}
+
+/// A table's net as it is played: by the old rule its ordinary conditions block a taker.
+fn table_played(net: &Net) -> Played<'_, Net> {
+    let is_old = net.rule == Some(Rule::Old);
+    let ordinary = net.persistent.iter().map(|persistent| !persistent);
+    Played {
+        game: net,
+        blocks_taker: ordinary.map(|ordinary| is_old && ordinary).collect(),
+    }
+}
+
+/// A net's unfolding as it is played: by the old rule what is no copy blocks a taker.
+fn unfolding_played<'a>(net: &Net, unfolding: &'a Unfolding) -> Played<'a, Unfolding> {
+    let is_old = net.rule == Some(Rule::Old);
+    let ordinary = unfolding.conditions.iter().map(|c| c.copy.is_none());
+    Played {
+        game: unfolding,
+        blocks_taker: ordinary.map(|ordinary| is_old && ordinary).collect(),
+    }
+}
+
 /// What stops an event, by the rule alone.
-fn by_the_rule<G: Game>(game: &G, marking: &[bool], number: u16) -> Option<(u8, Option<u16>)> {
+fn by_the_rule<G: Game>(
+    played: &Played<G>,
+    marking: &[bool],
+    number: u16,
+) -> Option<(u8, Option<u16>)> {
+    let Played { game, blocks_taker } = played;
     let Some(event) = game.event(number) else {
         return Some((10, None));
     };
@@ -33,9 +65,10 @@ fn by_the_rule<G: Game>(game: &G, marking: &[bool], number: u16) -> Option<(u8, 
     let put = |b| event.postconditions.contains(&b);
     let holds = |b| marking[usize::from(b)];
     let ordinary = |b| !game.persistent()[usize::from(b)];
+    let blocks = |b| !taken(b) || blocks_taker[usize::from(b)];
     let lacking = first_from_0(marking.len(), |b| taken(b) && !holds(b));
     let contact = first_from_0(marking.len(), |b| {
-        put(b) && !taken(b) && ordinary(b) && holds(b)
+        put(b) && blocks(b) && ordinary(b) && holds(b)
     });
     match (lacking, contact) {
         (None, None) => None,
@@ -45,7 +78,8 @@ fn by_the_rule<G: Game>(game: &G, marking: &[bool], number: u16) -> Option<(u8, 
 }
 
 /// The number that refused an event before any condition was told, or 0.
-fn number_before<G: Game>(game: &G, marking: &[bool], number: u16) -> u8 {
+fn number_before<G: Game>(played: &Played<G>, marking: &[bool], number: u16) -> u8 {
+    let Played { game, blocks_taker } = played;
     let Some(Event {
         preconditions,
         postconditions,
@@ -54,8 +88,8 @@ fn number_before<G: Game>(game: &G, marking: &[bool], number: u16) -> u8 {
         return 10;
     };
     let holds = |b: &u16| marking[usize::from(*b)];
-    let contact =
-        |b: &u16| !game.persistent()[usize::from(*b)] && holds(b) && !preconditions.contains(b);
+    let blocks = |b: &u16| blocks_taker[usize::from(*b)] || !preconditions.contains(b);
+    let contact = |b: &u16| !game.persistent()[usize::from(*b)] && holds(b) && blocks(b);
     match (
         preconditions.iter().all(holds),
         postconditions.iter().any(contact),
@@ -67,21 +101,21 @@ fn number_before<G: Game>(game: &G, marking: &[bool], number: u16) -> u8 {
 }
 
 /// The number and step by which a run was refused before any condition was told; nothing where it plays.
-fn refused_before<G: Game>(game: &G, run: &[u16]) -> Option<(u8, usize)> {
-    let mut marking = game.start();
+fn refused_before<G: Game>(played: &Played<G>, run: &[u16]) -> Option<(u8, usize)> {
+    let mut marking = played.game.start();
     for (step, number) in run.iter().enumerate() {
-        match fire(game, &marking, *number) {
+        match fire(played.game, &marking, *number) {
             Ok(after) => marking = after,
-            Err(_) => return Some((number_before(game, &marking, *number), step)),
+            Err(_) => return Some((number_before(played, &marking, *number), step)),
         }
     }
     None
 }
 
 /// The condition that stops a run by the rule, in the marking before the step.
-fn run_by_the_rule<G: Game>(game: &G, run: &[u16], step: usize) -> Option<u16> {
-    let before = play(game, game.start(), &run[..step]).unwrap();
-    by_the_rule(game, &before, run[step]).and_then(|(_, by)| by)
+fn run_by_the_rule<G: Game>(played: &Played<G>, run: &[u16], step: usize) -> Option<u16> {
+    let before = play(played.game, played.game.start(), &run[..step]).unwrap();
+    by_the_rule(played, &before, run[step]).and_then(|(_, by)| by)
 }
 
 /// How often 11 and 12 came, each by an ordinary condition and by one that is persistent or a copy of such a one.
@@ -119,8 +153,13 @@ fn is_copy(unfolding: &Unfolding, number: u16) -> bool {
 }
 
 /// A firing's refusal is the rule's, with the condition as place, and was there before but for those two.
-fn firing_agrees<G: Game>(game: &G, marking: &[bool], number: u16, answer: Option<Refusal>) {
-    let rule = by_the_rule(game, marking, number);
+fn firing_agrees<G: Game>(
+    played: &Played<G>,
+    marking: &[bool],
+    number: u16,
+    answer: Option<Refusal>,
+) {
+    let rule = by_the_rule(played, marking, number);
     let place = |by: Option<u16>| by.map_or(0, usize::from);
     let expected = rule.map(|(number, by)| Refusal {
         number,
@@ -130,7 +169,7 @@ fn firing_agrees<G: Game>(game: &G, marking: &[bool], number: u16, answer: Optio
     assert_eq!(answer, expected);
     assert_eq!(
         answer.map_or(0, |refusal| refusal.number),
-        number_before(game, marking, number)
+        number_before(played, marking, number)
     );
 }
 
@@ -150,7 +189,7 @@ fn a_firing_is_stopped_by_the_lowest_condition_at_fault() {
         let number = random.below(net.events.len() + 1) as u16;
         let mut lent_marking = lent(marking.len(), &held(&marking));
         let answer = calls::has_concession(&table, &lent_marking, number).err();
-        firing_agrees(&net, &marking, number, answer);
+        firing_agrees(&table_played(&net), &marking, number, answer);
         let fired = calls::fire_event(&table, &mut lent_marking, number).err();
         assert_eq!(fired, answer);
         if let Some(Refusal { number, by, .. }) = answer {
@@ -160,7 +199,8 @@ fn a_firing_is_stopped_by_the_lowest_condition_at_fault() {
         let number = random.below(unfolding.events.len() + 1) as u16;
         let mut lent_marking = lent(marking.len(), &held(&marking));
         let answer = calls::fire_unfolded(&table, &mut lent_marking, number).err();
-        firing_agrees(&unfolding, &marking, number, answer);
+        let played = unfolding_played(&net, &unfolding);
+        firing_agrees(&played, &marking, number, answer);
         if let Some(Refusal { number, by, .. }) = answer {
             unfolded_seen.count((number, by), |b| is_copy(&unfolding, b));
         }
@@ -183,11 +223,11 @@ fn run_with_any_end<G: Game>(random: &mut Random, game: &G, events: usize) -> Ve
 
 /// A run's refusal by a step is the rule's, with the step as place, and was there before but for the condition; tells whether there is
 /// one.
-fn run_agrees<G: Game>(game: &G, run: &[u16], answer: Option<Refusal>) -> bool {
-    let expected = refused_before(game, run).map(|(number, step)| Refusal {
+fn run_agrees<G: Game>(played: &Played<G>, run: &[u16], answer: Option<Refusal>) -> bool {
+    let expected = refused_before(played, run).map(|(number, step)| Refusal {
         number,
         place: step,
-        by: run_by_the_rule(game, run, step),
+        by: run_by_the_rule(played, run, step),
     });
     assert_eq!(answer.filter(|r| (10..=12).contains(&r.number)), expected);
     expected.is_some()
@@ -197,7 +237,7 @@ fn run_agrees<G: Game>(game: &G, run: &[u16], answer: Option<Refusal>) -> bool {
 fn table_run_agrees(net: &Net, run: &[u16]) -> Option<Refusal> {
     let table = table_bytes(net);
     let answer = replay(&table, run).err();
-    if !run_agrees(net, run, answer) {
+    if !run_agrees(&table_played(net), run, answer) {
         return None;
     }
     assert_eq!(lift(&table, run).err(), answer);
@@ -210,7 +250,7 @@ fn table_run_agrees(net: &Net, run: &[u16]) -> Option<Refusal> {
 fn unfolded_run_agrees(net: &Net, unfolding: &Unfolding, run: &[u16]) -> Option<Refusal> {
     let table = table_bytes(net);
     let answer = project(&table, run).err();
-    run_agrees(unfolding, run, answer);
+    run_agrees(&unfolding_played(net, unfolding), run, answer);
     assert_eq!(replay_unfolded(&table, run).err(), answer);
     answer
 }
