@@ -279,6 +279,13 @@ fn the_pages_show_what_the_command_writes() {
     );
     let (out, err) = refused(top, &["list", "examples/changeover.txt", "hasty"]);
     assert_eq!(out.clone() + &err, story[1]);
+    for (name, block) in ["rack", "rack-old"]
+        .iter()
+        .zip(story.iter().rev().take(2).rev())
+    {
+        let judged = ran_in(top, &["judge", &format!("examples/{name}.txt")]);
+        assert_eq!(&judged.out, block, "{name}");
+    }
     let shown = |line: &str| format!("    {line}\n");
     let indented: String = (out + &err).lines().map(shown).collect();
     let readme = fs::read_to_string(top.join("README.md")).unwrap();

@@ -241,6 +241,8 @@ fn the_examples_are_exported() {
         "net-d",
         "net-e",
         "net-e-marked",
+        "rack",
+        "rack-old",
         "changeover",
     ] {
         let table = example(name);
@@ -292,7 +294,7 @@ fn the_page_counts_the_markings_of_the_unfolded_nets() {
         );
         counted += 1;
     }
-    assert_eq!(counted, 10);
+    assert_eq!(counted, 12);
 }
 
 #[test]

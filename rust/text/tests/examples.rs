@@ -100,6 +100,18 @@ fn net_o() {
 }
 
 #[test]
+fn racks() {
+    assert_eq!(end("rack.txt", "up"), [0, 2, 3]);
+    assert_eq!(lifted("rack.txt", "up"), Ok(vec![0, 2, 3, 2]));
+    assert_eq!(unfolded_end("rack.txt", "up"), [0, 2, 4]);
+    assert_eq!(counts("rack-old.txt"), counts("rack.txt"));
+    assert_eq!(lifted("rack-old.txt", "up"), refused_by(12, 1, 0));
+    assert_eq!(lifted("rack-old.txt", "half"), Ok(vec![0]));
+    let [bytes, old] = ["rack.txt", "rack-old.txt"].map(|name| example(name).bytes());
+    assert_eq!(old, [&[1, 0, 6, 0, 1][..], &bytes[..]].concat());
+}
+
+#[test]
 fn net_d() {
     assert_eq!(counts("net-d.txt"), Ok((31, 1035)));
     let lifted = lifted("net-d.txt", "all").unwrap();
