@@ -10,7 +10,7 @@ use lib.ListN.{length, getD, take}
 use denote.Ref.{now, ptr}
 use Rattle.lists.specs.Lists.{sum}
 use Rattle.model.specs.Net.{Net}
-use Rattle.model.specs.Numbering.{size, eventCount}
+use Rattle.model.specs.Numbering.{size, width, eventCount}
 use Rattle.refusal.specs.declared.Judged.{Judged}
 use Rattle.refusal.specs.Answer.{written}
 use Rattle.table.specs.Walk.{offsetOf}
@@ -68,7 +68,9 @@ use Rattle.colours.proofs.colours.Reads as colours
 use Rattle.layout.proofs.width.Reads as width
 use Rattle.unfolding.proofs.marker_at.Reads as marker-at
 use Rattle.unfolding.proofs.marker_place.Reads as marker-place
+use Rattle.conditions.specs.Owners.{Owns}
 use Rattle.unfolding.proofs.owner.Reads as owner
+use Rattle.conditions.proofs.owner.Reads as condition-owner
 use Rattle.unfolding.proofs.colours_before.Reads as colours-before
 use Rattle.copies.proofs.write_copies.Reads as write-copies
 use Rattle.decided.proofs.decide.Reads as decide
@@ -105,6 +107,18 @@ same-tally n post first upto l k h g = same-list l k (h .size ∙ sym (g .size))
 -- no number belongs to an event and to a later one
 never-later : (s : List ℕ) (j e at rest weight d by left wide : ℕ) → Owner s j e at rest weight → Owner s j d by left wide → e < d → ⊥
 never-later s j e at rest weight d by left wide h g l = omega (arith, sum-part (size (netOf s)) d e l, h .left, h .whole, h .below, g .left)
+
+-- a number falls to one condition, or past the last
+same-owned : (f : ℕ → ℕ) (c i b d : ℕ) → Owns f c i b → Owns f c i d → b ≡ d
+same-owned f c i b d h g = go (decLe b d) (decLe d b)
+  where
+    apart : (x y : ℕ) → Owns f c i x → Owns f c i y → x < y → ⊥
+    apart x y p q l = absurd (omega (arith, sum-part f y x l, p .below (omega (arith, q .most)), q .from))
+
+    go : Dec (b ≤ d) → Dec (d ≤ b) → b ≡ d
+    go (yes l) (yes k) = omega arith
+    go (no l) k = absurd (apart d b g h (omega arith))
+    go (yes l) (no k) = absurd (apart b d h g (omega arith))
 
 same-owner : (s : List ℕ) (j : ℕ) (r q : Found) → Belongs s j r → Belongs s j q → r ≡ q
 unfolding eventCount
@@ -274,6 +288,9 @@ marker-at-one κs a r q x y h g = h ∙ sym g
 
 pub marker-place-one : (κs : _) (a : _) (r q : _) (x y : _) → marker-place.Learnt κs a r x → marker-place.Learnt κs a q y → r ≡ q
 marker-place-one κs a r q x y h g = h ∙ sym g
+
+pub condition-owner-one : (κs : _) (a : _) (r q : _) (x y : _) → condition-owner.Learnt κs a r x → condition-owner.Learnt κs a q y → r ≡ q
+condition-owner-one κs a r q x y h g = same-owned (width (netOf (now (a .0)))) (a .1 .1 .0) (a .1 .1 .1 .0) r q h g
 
 pub owner-one : (κs : _) (a : _) (r q : _) (x y : _) → owner.Learnt κs a r x → owner.Learnt κs a q y → r ≡ q
 owner-one κs a r q x y h g = same-owner (now (a .0)) (a .1 .1 .1 .0) r q h g
