@@ -1,10 +1,10 @@
 -- The calls of the game go by the rule that the table asks for: the paper's, or the old one.
-use mathlib.Core.Path.{_≡_, refl, sym, ap, _∙_, subst}
-use mathlib.Core.Bool.{Bool, true, false}
+use mathlib.Core.Path.{_≡_, refl, sym, ap, _∙_}
+use mathlib.Core.Bool.{true, false}
 use mathlib.Core.Logic.{_↔_}
 use mathlib.Core.Option.{Option, none, some}
 use mathlib.Core.List.{List}
-use Prim.Native.Nat.{ℕ, _≤_, _<_}
+use Prim.Native.Nat.{ℕ, _<_}
 use native.Mathlib.Omega.{arith}
 use lib.Dec.{T, lt→ltb}
 use lib.ListN.{length}
@@ -18,13 +18,14 @@ use Rattle.model.proofs.Firing.{none-can, can-none, can-concession, can-of, fir
 use Rattle.model.proofs.Lent.{marking-bytes, tidy-marking}
 use Rattle.model.proofs.Rule.{concession-paper, fires-paper, concession-old, fires-old}
 use Rattle.refusal.specs.declared.Judged.{Judged}
-use Rattle.refusal.specs.declared.Judged.the-variants.{Fine, Refused}
+use Rattle.refusal.specs.declared.Judged.the-variants.{Fine}
 use Rattle.refusal.specs.Answer.{andThen}
 use Rattle.refusal.proofs.Chain.{never-both}
 use Rattle.records.specs.Records.{oldRule}
 use Rattle.table.specs.Decoded.{netOf}
 use Rattle.table.specs.Links.{refusedOr}
-use Rattle.table.proofs.Decoded.{net-judged, events-are-all, conditions-are-all}
+use Rattle.table.proofs.Decoded.{events-are-all, conditions-are-all}
+use Rattle.table.proofs.Ruled.{rule-read}
 use Rattle.table.proofs.Sound.{accepted-sound}
 use Rattle.game.specs.Calls.{onMarking, leaves, firingStopped, firingOf, concessionOf, fireOf, firedOf}
 use Rattle.game.proofs.Marked.{on-then, on-fine}
@@ -44,7 +45,7 @@ module _ (s m : List ℕ) (e n : ℕ) (h : onMarking s m Fine ≡ Fine n) (low :
   long = let k = on-fine s m Fine n h in k .long ∙ conditions-are-all s (k .events) (k .judged)
 
   rule : (b : ℕ) → netOf s .old b ≡ oldRule s
-  rule b = let k = on-fine s m Fine n h in ap (λ (x : Net). x .old b) (net-judged s (Fine (k .events)) (k .judged))
+  rule b = let k = on-fine s m Fine n h in rule-read s (k .events) (k .judged) b
 
   -- an asking is fine exactly if the event has concession
   asked : (v : ℕ) → (firingOf s m e v ≡ Fine v) ↔ T (concession (netOf s) (marking m) e)

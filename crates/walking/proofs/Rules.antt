@@ -79,8 +79,8 @@ module _ (s bases : List ℕ) (w : Summed s bases) where
     )
 
   module _ (k : ℕ) (h : k < basic (netOf s) .conditions) (r : Bool) (e : r ≡ oldRule s) where
-    pub new-rule : r ≡ false → false ≡ basic (netOf s) .old k
-    new-rule f = sym (none-follows (netOf s) (λ b. rule-is b ∙ sym e ∙ f) k h)
+    pub paper-rule : r ≡ false → false ≡ basic (netOf s) .old k
+    paper-rule f = sym (none-follows (netOf s) (λ b. rule-is b ∙ sym e ∙ f) k h)
 
     module _ (t : r ≡ true) (c : ℕ) (q : c ≡ conditions s) (b : ℕ) (o : Owns (width (netOf s)) c k b) where
       inside : b < c

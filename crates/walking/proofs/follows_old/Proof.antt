@@ -1,5 +1,5 @@
 -- `walking::follows_old` meets its contract.
-use Rattle.walking.proofs.Rules.{owner-sums, old-rule, new-rule}
+use Rattle.walking.proofs.Rules.{owner-sums, old-rule, paper-rule}
 use borrow.Author.Needs.{needs}
 use Rattle.walking.proofs.follows_old.Statement.{statement}
 use Rattle.walking.proofs.follows_old.Tie as tie
@@ -14,7 +14,7 @@ returns c =
 
 returns-2 : tie.Need-returns-2
 returns-2 c =
-    new-rule (c .before .before .before .before .args .table .now) (c .before .before .before .before .args .bases .now) (c .before .before .before .before .pre .0) (c .before .before .before .before .args .k) (c .before .before .before .before .pre .1) (c .before .old-rule .result) (c .before .old-rule .ensures) (c .if1 .left)
+    paper-rule (c .before .before .before .before .args .table .now) (c .before .before .before .before .args .bases .now) (c .before .before .before .before .pre .0) (c .before .before .before .before .args .k) (c .before .before .before .before .pre .1) (c .before .old-rule .result) (c .before .old-rule .ensures) (c .if1 .left)
 
 pub follows-old-spec : {M : Type 1} → statement M
 follows-old-spec =
