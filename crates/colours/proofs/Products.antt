@@ -3,29 +3,33 @@ use Prim.Native.Nat.{ℕ, zero, suc, _+_, _*_, _-_, _≤_, _<_}
 use native.Mathlib.Numerals.{add-one}
 use native.Mathlib.Omega.{arith}
 use native.Mathlib.Decide.{decLe}
-use native.Mathlib.Nat.{zero-mul, suc-mul, min-eq-left, min-eq-right}
+use native.Mathlib.Nat.{zero-mul, suc-mul, mul-one, one-mul, mul-comm, mul-assoc, min-eq-left, min-eq-right}
 use mathlib.Core.Path.{_≡_, refl, sym, ap, _∙_}
 use mathlib.Core.List.{List, [], _∷_, map}
 use mathlib.Core.Bool.{Bool, true, false, _||_, cond}
 use lib.Dec.{T, eqb}
 use lib.ListN.{length, getD, take, drop, length-drop, drop-of-length-le}
-use lib.Seq.{take-all, drop-cons}
+use lib.Seq.{take-all, drop-cons, drop-drop}
 use borrow.Author.Tests.{eq-eqb, ne-eqb}
 use Rattle.lists.specs.Lists.{any, index, keep}
 use Rattle.lists.proofs.Bools.{T-of, not-true, or-left, or-right, or-none}
 use Rattle.words.specs.Words.{wordAt, words}
 use Rattle.words.proofs.Laws.{words-next, words-end}
 use Rattle.records.specs.Records.{flags}
-use Rattle.colours.specs.Colours.{flaggedIn, radicesIn, radices, product, capped}
+use Rattle.colours.specs.Colours.{flaggedIn, radicesIn, radices, product, capped, ending}
 
 -- a count that is capped already serves in a capped product
-pub capped-mul : (a b : ℕ) → capped (a * capped b) ≡ capped (a * b)
+capped-mul : (a b : ℕ) → capped (a * capped b) ≡ capped (a * b)
 capped-mul zero b = simp zero-mul
 capped-mul (suc a) b = go (decLe b 65536)
   where
     go : Dec (b ≤ 65536) → capped (suc a * capped b) ≡ capped (suc a * b)
     go (yes le) = rw (min-eq-left le)
     go (no gt) = simp (min-eq-right {n = 65536} {m = b} (omega arith), suc-mul) (omega arith)
+
+-- a capped product serves as the count that is carried down
+capped-carried : (a b c : ℕ) → capped (capped (a * b) * c) ≡ capped (a * (b * c))
+capped-carried a b c = rw (mul-comm (capped (a * b)) c, capped-mul c (a * b), mul-comm c (a * b), mul-assoc a b c)
 
 -- the part of a list from a place on, as a lent part has it
 pub part-from : (xs : List ℕ) (k : ℕ) → take (length xs - k) (drop k xs) ≡ drop k xs
@@ -71,29 +75,49 @@ front t (a ∷ b ∷ r) = go (t (a + 256 * b)) refl (front t r)
         let z : 2 * suc (index t (words r)) ≡ suc (suc (2 * index t (words r))) = omega arith in
         rw z (record { within = omega (arith, f .within); kept = rw e (f .kept); passes = λ h. rw add-one (rw add-one at (f .passes (omega arith))) })
 
--- ---- the product down a list whose first persistent condition stands at place i
+-- ---- the product down the last bytes of a list, whose first persistent condition stands i bytes on
 
-module _ (bytes markers pre : List ℕ) (i : ℕ) (e : i ≡ 2 * index (flaggedIn bytes) (words pre)) where
-  at-front : Front (flaggedIn bytes) pre i
-  at-front = rw e (front (flaggedIn bytes) pre)
+module _ (bytes markers pre : List ℕ) (left i : ℕ) (h : left ≤ length pre) (e : i ≡ 2 * index (flaggedIn bytes) (words (take (length pre - (length pre - left)) (drop (length pre - left) pre)))) where
+  size : length (ending left pre) ≡ left
+  size = simp length-drop (omega arith)
 
-  pub front-within : i ≤ length pre
-  front-within = at-front .within
+  lent : (take (length pre - (length pre - left)) (drop (length pre - left) pre)) ≡ ending left pre
+  lent = part-from pre (length pre - left)
+
+  at-front : Front (flaggedIn bytes) (ending left pre) i
+  at-front = rw (e, lent) (front (flaggedIn bytes) (ending left pre))
+
+  pub front-within : i ≤ left
+  front-within = rw size at (at-front .within)
 
   -- ordinary conditions at the front add no radix
-  front-radices : radicesIn bytes markers (words pre) ≡ radicesIn bytes markers (words (drop i pre))
+  front-radices : radicesIn bytes markers (words (ending left pre)) ≡ radicesIn bytes markers (words (drop i (ending left pre)))
   front-radices = ap (map (λ b. getD markers b 0)) (at-front .kept)
 
-  pub product-none : length pre - i < 2 → 1 ≡ capped (product (radicesIn bytes markers (words pre)))
+  pub product-none : left - i < 2 → (count : ℕ) → count ≤ 65536 → count ≡ capped (count * product (radicesIn bytes markers (words (ending left pre))))
   unfolding product
-  product-none h = rw (front-radices, words-end pre i (omega arith))
+  product-none s count le = rw (front-radices, words-end (ending left pre) i (rw size (omega arith)), mul-one count, min-eq-left le)
 
-  pub product-more : 2 ≤ length pre - i → (b : ℕ) → b ≡ wordAt pre i
-      → product (radicesIn bytes markers (words pre)) ≡ getD markers b 0 * product (radicesIn bytes markers (words (take (length pre - (i + 2)) (drop (i + 2) pre))))
+  product-more : 2 ≤ left - i → (b : ℕ) → b ≡ wordAt (take (length pre - (length pre - left)) (drop (length pre - left) pre)) i
+      → product (radicesIn bytes markers (words (ending left pre))) ≡ getD markers b 0 * product (radicesIn bytes markers (words (ending (left - i - 2) pre)))
   unfolding product
-  product-more h b z =
-      let p : flaggedIn bytes b ≡ true = rw z (at-front .passes (omega arith)) in
-      rw (part-from, front-radices, words-next pre i (omega arith), ← z, p)
+  product-more s b z =
+      let l : 1 < length (ending left pre) - i = rw size (omega arith) in
+      let y : b ≡ wordAt (ending left pre) i = rw lent at z in
+      let p : flaggedIn bytes b ≡ true = rw y (at-front .passes l) in
+      let w : length pre - (left - i - 2) ≡ length pre - left + (i + 2) = omega arith in
+      rw (front-radices, words-next (ending left pre) i l, ← y, p, w, ← drop-drop (i + 2) (length pre - left) pre)
+
+  -- the count times the first number of markers is carried down the rest of the list
+  pub product-carried : 2 ≤ left - i → (b : ℕ) → b ≡ wordAt (take (length pre - (length pre - left)) (drop (length pre - left) pre)) i → (count n p r : ℕ) → n ≡ getD markers b 0 → p ≡ capped (count * n)
+      → r ≡ capped (p * product (radicesIn bytes markers (words (ending (left - i - 2) pre)))) → r ≡ capped (count * product (radicesIn bytes markers (words (ending left pre))))
+  product-carried s b z count n p r e f g = rw (product-more s b z, g, f, e) (capped-carried count (getD markers b 0) (product (radicesIn bytes markers (words (ending (left - i - 2) pre)))))
+
+-- a count of one that is carried down the whole list leaves the product
+pub product-whole : (bytes markers pre : List ℕ) {r : ℕ} → r ≡ capped (1 * product (radicesIn bytes markers (words (ending (length pre) pre)))) → r ≡ capped (product (radicesIn bytes markers (words pre)))
+product-whole bytes markers pre t =
+    let z : length pre - length pre ≡ 0 = omega arith in
+    rw (z, one-mul (product (radicesIn bytes markers (words pre)))) at t
 
 -- ---- no condition is persistent
 

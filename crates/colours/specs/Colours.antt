@@ -1,9 +1,9 @@
 -- Which conditions a table's flags say are persistent, and how many colours a list of preconditions leaves.
-use Prim.Native.Nat.{ℕ, _+_, _*_, min}
+use Prim.Native.Nat.{ℕ, _+_, _*_, _-_, min}
 use mathlib.Core.Bool.{Bool}
 use mathlib.Core.List.{List, [], _∷_, map}
 use lib.Dec.{eqb}
-use lib.ListN.{getD}
+use lib.ListN.{length, getD, drop}
 use Rattle.lists.specs.Lists.{keep}
 use Rattle.model.specs.Across.{mostUnfolded}
 use Rattle.records.specs.Records.{flags}
@@ -32,3 +32,7 @@ product (r ∷ rs) = r * product rs
 -- A count, or one more than the most there may be, so that over the limit stays over the limit (01, Unfolding).
 abbrev pub capped : ℕ → ℕ
 capped k = min k (mostUnfolded + 1)
+
+-- The last ones of a list, so many.
+abbrev pub ending : ℕ → List ℕ → List ℕ
+ending k l = drop (length l - k) l

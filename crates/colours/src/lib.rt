@@ -1,10 +1,11 @@
 // Which conditions are persistent, and how many colours the persistent preconditions of an event leave it.
 ghost use mathlib.Core.Path.{_≡_};
-ghost use Prim.Native.Nat.{_*_};
+ghost use Prim.Native.Nat.{_*_, _≤_};
 ghost use lib.Dec.{eqb};
+ghost use lib.ListN.{length};
 ghost use Rattle.lists.specs.Lists.{any, index};
 ghost use Rattle.words.specs.Words.{words};
-ghost use Rattle.colours.specs.Colours.{flaggedIn, flagged, radicesIn, radices, product, capped};
+ghost use Rattle.colours.specs.Colours.{flaggedIn, flagged, radicesIn, radices, product, capped, ending};
 
 // Whether condition b is persistent.
 pub fn is_persistent(table: &[u8], b: usize) -> bool
@@ -55,17 +56,38 @@ fn some_persistent(flags: &[u8]) -> bool
     found
 }
 
-// The colours that a list of preconditions leaves: a recursion down its persistent ones, capped above the limit.
-fn colours_down<'a>(flags: &'a [u8], markers: &[u32], pre: &'a [u8]) -> u32
+// A count times the colours that the last bytes of a list of preconditions leave: a recursion down its persistent ones, capped above
+// the limit, with the lists behind references so that all calls can use one frame.
+fn colours_down<'a>(
+    count: u32,
+    flags: &&'a [u8],
+    markers: &&[u32],
+    pre: &&'a [u8],
+    left: usize,
+) -> u32
+    requires { ⌜ count ≤ 65536 ⌝ }
+    requires { ⌜ left ≤ length (now (now pre)) ⌝ }
+    ensures { λ r. ⌜ r ≡ capped (count * product (radicesIn (now (now (flags .entry))) (now (now (markers .entry))) (words (ending left (now (now (pre .entry))))))) ⌝ }
+{
+    let bytes = *flags;
+    let list = *pre;
+    let rest = &list[list.len() - left..];
+    let i = first_persistent(bytes, rest);
+    if left - i < 2 {
+        return count;
+    }
+    let b = words::word_within(rest, i) as usize;
+    let numbers = *markers;
+    let product = capped_product(count, tally::number(numbers, b));
+    colours_down(product, flags, markers, pre, left - i - 2)
+}
+
+// The colours that a whole list of preconditions leaves.
+fn colours_left<'a>(flags: &'a [u8], markers: &[u32], pre: &'a [u8]) -> u32
     ensures { λ r. ⌜ r ≡ capped (product (radicesIn (now (flags .entry)) (now (markers .entry)) (words (now (pre .entry))))) ⌝ }
 {
-    let i = first_persistent(flags, pre);
-    if pre.len() - i < 2 {
-        return 1;
-    }
-    let b = words::word_within(pre, i) as usize;
-    let rest = colours_down(flags, markers, &pre[i + 2..]);
-    capped_product(tally::number(markers, b), rest)
+    let left = pre.len();
+    colours_down(1, &flags, &markers, &pre, left)
 }
 
 // How many colours an event has; a list that is longer than the conditions' bytes is walked only if one of them is persistent.
@@ -75,9 +97,9 @@ pub fn colours<'a>(table: &'a [u8], markers: &[u32], pre: &'a [u8]) -> u32
     let flags = records::flags(table);
     if flags.len() < pre.len() {
         if some_persistent(flags) {
-            return colours_down(flags, markers, pre);
+            return colours_left(flags, markers, pre);
         }
         return 1;
     }
-    colours_down(flags, markers, pre)
+    colours_left(flags, markers, pre)
 }

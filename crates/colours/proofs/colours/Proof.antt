@@ -8,7 +8,7 @@ use Rattle.colours.proofs.colours.Tie as tie
 
 returns : tie.Need-returns
 returns c =
-    product-read (c .before .before .before .before .before .before .before .before .args .table .now) (c .before .before .before .before .before .before .before .before .args .markers .now) (words (c .before .before .before .before .before .before .before .before .args .pre .now)) (c .before .before .before .before .flags .result .now) (c .before .before .before .before .flags .ensures) (c .colours-down .ensures)
+    product-read (c .before .before .before .before .before .before .before .before .args .table .now) (c .before .before .before .before .before .before .before .before .args .markers .now) (words (c .before .before .before .before .before .before .before .before .args .pre .now)) (c .before .before .before .before .flags .result .now) (c .before .before .before .before .flags .ensures) (c .colours-left .ensures)
 
 returns-2 : tie.Need-returns-2
 returns-2 c =
@@ -16,7 +16,7 @@ returns-2 c =
 
 returns-3 : tie.Need-returns-3
 returns-3 c =
-    product-read (c .before .before .before .before .before .before .args .table .now) (c .before .before .before .before .before .before .args .markers .now) (words (c .before .before .before .before .before .before .args .pre .now)) (c .before .before .flags .result .now) (c .before .before .flags .ensures) (c .colours-down2 .ensures)
+    product-read (c .before .before .before .before .before .before .args .table .now) (c .before .before .before .before .before .before .args .markers .now) (words (c .before .before .before .before .before .before .args .pre .now)) (c .before .before .flags .result .now) (c .before .before .flags .ensures) (c .colours-left2 .ensures)
 
 pub colours-spec : {M : Type 1} → statement M
 colours-spec =
