@@ -13,7 +13,6 @@ use Rattle.records.specs.Records.{flags, prePart, postPart}
 use Rattle.table.specs.Decoded.{netOf}
 use Rattle.table.proofs.Decoded.{net-judged}
 use Rattle.apart.specs.declared.Test.the-variants.{Shared, Held, Once}
-use Rattle.model.specs.Lent.{marking}
 use Rattle.apart.specs.Tests.{passesOf}
 use Rattle.apart.specs.Found.{Found}
 
@@ -30,24 +29,24 @@ unfolding apart
 never-itself n m e f h = rw (eq-eqb e f h)
 
 -- the lists of two events that differ, as they are read
-module _ (s l : List ℕ) (e here f there : ℕ) (p : Found s e here) (q : Found s f there) (differ : e ≡ f → ⊥) (kept preE postE preF postF : List ℕ)
+module _ (s : List ℕ) (m : Marking) (e here f there : ℕ) (p : Found s e here) (q : Found s f there) (differ : e ≡ f → ⊥) (kept preE postE preF postF : List ℕ)
     (isKept : kept ≡ flags s) (isPreE : preE ≡ prePart s here) (isPostE : postE ≡ postPart s here) (isPreF : preF ≡ prePart s there) (isPostF : postF ≡ postPart s there) where
   abbrev taken : Bool
-  taken = all (passesOf Shared kept (marking l) (words preF) (words postF)) (words preE)
+  taken = all (passesOf Shared kept m (words preF) (words postF)) (words preE)
 
   abbrev put : Bool
-  put = all (passesOf Shared kept (marking l) (words preF) (words postF)) (words postE)
+  put = all (passesOf Shared kept m (words preF) (words postF)) (words postE)
 
   abbrev read : Bool
-  read = all (passesOf Held kept (marking l) (words preF) (words postF)) (words preF)
+  read = all (passesOf Held kept m (words preF) (words postF)) (words preF)
 
   abbrev both : Bool
-  both = all (passesOf Once kept (marking l) (words preF) (words postF)) (words postE)
+  both = all (passesOf Once kept m (words preF) (words postF)) (words postE)
 
-  premises : apart (netOf s) (marking l) e f ≡ (true && (taken && put) && read && both)
+  premises : apart (netOf s) m e f ≡ (true && (taken && put) && read && both)
   unfolding apart touch
   premises =
       rw (net-judged s (Fine (p .events)) (p .judged), ne-eqb e f differ, isKept, isPreE, isPostE, isPreF, isPostF, p .place, q .place, all-append)
 
-  pub apart-by : (a b c d : Bool) → a ≡ taken → b ≡ put → c ≡ read → d ≡ both → ((a && b) && c && d) ≡ apart (netOf s) (marking l) e f
+  pub apart-by : (a b c d : Bool) → a ≡ taken → b ≡ put → c ≡ read → d ≡ both → ((a && b) && c && d) ≡ apart (netOf s) m e f
   apart-by a b c d x y z w = rw (x, y, z, w) (sym premises)

@@ -5,7 +5,7 @@ ghost use Rattle.lists.specs.Lists.{mem, all, _⇒_};
 ghost use Rattle.words.specs.Words.{words};
 ghost use Rattle.model.specs.Exchange.{apart};
 ghost use Rattle.table.specs.Decoded.{netOf};
-ghost use Rattle.model.specs.Lent.{marking};
+ghost use Rattle.held.specs.Held.{heldIn};
 ghost use Rattle.apart.specs.Found.{Found};
 ghost use Rattle.apart.specs.Tests.{passesOf};
 
@@ -33,15 +33,15 @@ fn unshared<'a>(kept: bool, pre: &'a [u8], post: &'a [u8], b: usize) -> bool
 fn passes<'a>(
     test: Test,
     flags: &'a [u8],
-    state: &'a [u8],
+    held: [u64; 4],
     pre: &'a [u8],
     post: &'a [u8],
     b: u16,
 ) -> bool
-    ensures { λ r. ⌜ r ≡ passesOf test (now (flags .entry)) (marking (now (state .entry))) (words (now (pre .entry))) (words (now (post .entry))) b ⌝ }
+    ensures { λ r. ⌜ r ≡ passesOf test (now (flags .entry)) (heldIn held) (words (now (pre .entry))) (words (now (post .entry))) b ⌝ }
 {
     let place = b as usize;
-    let holds = words::byte(state, place) == 1;
+    let holds = held::holds(held, place);
     let kept = words::byte(flags, place) == 1;
     match test {
         Test::Shared => unshared(kept, pre, post, place),
@@ -66,16 +66,16 @@ fn passes<'a>(
 fn all_pass<'a>(
     test: Test,
     flags: &'a [u8],
-    state: &'a [u8],
+    held: [u64; 4],
     pre: &'a [u8],
     post: &'a [u8],
     list: &'a [u8],
 ) -> bool
-    ensures { λ r. ⌜ r ≡ all (passesOf test (now (flags .entry)) (marking (now (state .entry))) (words (now (pre .entry))) (words (now (post .entry)))) (words (now (list .entry))) ⌝ }
+    ensures { λ r. ⌜ r ≡ all (passesOf test (now (flags .entry)) (heldIn held) (words (now (pre .entry))) (words (now (post .entry)))) (words (now (list .entry))) ⌝ }
 {
     let mut i: usize = 0;
     while 1 < list.len() - i {
-        if passes(test, flags, state, pre, post, words::word(list, i)) {
+        if passes(test, flags, held, pre, post, words::word(list, i)) {
             i = i + 2;
         } else {
             return false;
@@ -91,10 +91,10 @@ pub fn apart_at<'a>(
     here: usize,
     f: u16,
     there: usize,
-    state: &'a [u8],
+    held: [u64; 4],
 ) -> bool
     requires { ⌜ Found (now table) e here × Found (now table) f there ⌝ }
-    ensures { λ r. ⌜ r ≡ apart (netOf (now (table .entry))) (marking (now (state .entry))) e f ⌝ }
+    ensures { λ r. ⌜ r ≡ apart (netOf (now (table .entry))) (heldIn held) e f ⌝ }
 {
     if e == f {
         return false;
@@ -105,7 +105,7 @@ pub fn apart_at<'a>(
     if !all_pass(
         Test::Shared,
         flags,
-        state,
+        held,
         pre,
         post,
         records::pre_at(table, here),
@@ -113,11 +113,11 @@ pub fn apart_at<'a>(
         return false;
     }
     let put = records::post_at(table, here);
-    if !all_pass(Test::Shared, flags, state, pre, post, put) {
+    if !all_pass(Test::Shared, flags, held, pre, post, put) {
         return false;
     }
-    if !all_pass(Test::Held, flags, state, pre, post, pre) {
+    if !all_pass(Test::Held, flags, held, pre, post, pre) {
         return false;
     }
-    all_pass(Test::Once, flags, state, pre, post, put)
+    all_pass(Test::Once, flags, held, pre, post, put)
 }

@@ -1,14 +1,11 @@
 -- A list asked for: what is answered and left where the asking is refused and where it is fine, and the lists of a table.
-use Prim.Native.Nat.{ℕ, _≤_}
-use native.Mathlib.Omega.{arith}
-use mathlib.Core.Path.{_≡_, sym, ap, _∙_}
+use Prim.Native.Nat.{ℕ}
+use mathlib.Core.Path.{_≡_, sym, ap, ap₂, _∙_}
 use mathlib.Core.List.{List}
-use lib.ListN.{length, getD, take}
-use lib.Seq.{getD-take, length-take-le}
+use lib.ListN.{length}
 use Rattle.words.specs.Words.{words}
-use Rattle.model.specs.Net.{begin, Marking}
+use Rattle.model.specs.Net.{begin}
 use Rattle.model.specs.Lent.{bytes}
-use Rattle.model.proofs.Lent.{length-bytes, bytes-at, bytes-are}
 use Rattle.refusal.specs.declared.Refusal.{Refusal}
 use Rattle.refusal.specs.declared.Judged.{Judged}
 use Rattle.refusal.specs.declared.Judged.the-variants.{Fine, Refused}
@@ -18,8 +15,8 @@ use Rattle.table.specs.Walk.{judgeOf}
 use Rattle.parts.specs.Asked.{askedOf}
 use Rattle.table.specs.Decoded.{netOf}
 use Rattle.parts.proofs.Asking.{asked-fine}
-use Rattle.table.proofs.Sound.{tabled}
 use Rattle.table.proofs.Decoded.{conditions-are-all}
+use Rattle.held.specs.Held.{heldIn}
 use Rattle.asking.specs.Calls.{startOf, startInto}
 
 -- An asking x for a list of which so many fit.
@@ -48,21 +45,12 @@ module _ (s : List ℕ) (e at : ℕ) (t : askedOf s e ≡ Fine at) where
   unfolding netOf
   post-read l p = let a = asked-fine s e at t in simp (a .judged) (ap words p ∙ ap (λ (x : ℕ). words (postPart s x)) (a .atIs))
 
--- The first bytes of a marking of more conditions are those of the marking.
-pub first-bytes : (c d : ℕ) (m : Marking) (l : List ℕ) → c ≤ d → l ≡ bytes d m → take c l ≡ bytes c m
-first-bytes c d m l h e =
-    let long : length l ≡ d = ap length e ∙ length-bytes d m in
-    bytes-are (take c l) c m (length-take-le c l (omega arith))
-    (λ i p. getD-take c l i 0 p ∙ ap (λ (x : List ℕ). getD x i 0) e ∙ bytes-at d m i (omega arith))
-
--- The start of a judged table, once its marking is there as bytes.
-pub start-fine : (s : List ℕ) (n : ℕ) → judgeOf s ≡ Fine n → (state : List ℕ) → state ≡ bytes 256 (begin (netOf s)) → (count : ℕ) → count ≡ conditions s
-    → (out after : List ℕ) (r : Judged) → r ≡ fitting count (length out) → after ≡ written r (take count state) out
+-- The start of a judged table, once its marking is there as words.
+pub start-fine : (s : List ℕ) (n : ℕ) → judgeOf s ≡ Fine n → (held : List ℕ) → heldIn held ≡ begin (netOf s) → (count : ℕ) → count ≡ conditions s
+    → (out after : List ℕ) (r : Judged) → r ≡ fitting count (length out) → after ≡ written r (bytes count (heldIn held)) out
     → (r ≡ startOf s (length out)) × (after ≡ startInto s out)
 unfolding startOf startInto
-start-fine s n j state b count k out after r f g =
+start-fine s n j held b count k out after r f g =
     let same : count ≡ netOf s .conditions = k ∙ conditions-are-all s n j in
-    let few : count ≤ 256 = omega (arith, same, tabled s n j .few-conditions) in
-    let first : take count state ≡ bytes count (begin (netOf s)) = first-bytes count 256 (begin (netOf s)) state few b in
-    listed-fine (judgeOf s) (bytes (netOf s .conditions) (begin (netOf s))) out (netOf s .conditions) n j r (take count state) after count
-    (first ∙ ap (λ (x : ℕ). bytes x (begin (netOf s))) same) same f g
+    listed-fine (judgeOf s) (bytes (netOf s .conditions) (begin (netOf s))) out (netOf s .conditions) n j r (bytes count (heldIn held)) after count
+    (ap₂ bytes same b) same f g

@@ -57,7 +57,6 @@ pub fn start(table: &[u8], out: &mut [u8]) -> Judged
     let Judged::Fine(n) = r else {
         return r;
     };
-    let mut state = [0u8; 256];
-    played::start(table, n, &mut state);
-    played::write_end(&state, records::conditions(table) as usize, out)
+    let held = played::start_held(table, n);
+    played::write_end(held, records::conditions(table) as usize, out)
 }

@@ -6,7 +6,7 @@ use mathlib.Core.Path.{_≡_, refl, sym, _∙_, ap, subst}
 use mathlib.Core.Bool.{Bool, true, false, _&&_, cond, and-true}
 use mathlib.Core.Option.{some}
 use mathlib.Core.List.{List}
-use lib.Dec.{T, ltb, ltb→lt}
+use lib.Dec.{T, eqb, ltb, ltb→lt}
 use lib.ListN.{length, getD, getElem?}
 use borrow.Author.Tests.{lt-ltb}
 use Rattle.lists.specs.Lists.{mem, index, sum}
@@ -14,11 +14,10 @@ use Rattle.lists.proofs.Bools.{is-true, T-of, not-true}
 use Rattle.lists.proofs.Places.{at-lt}
 use Rattle.lists.proofs.Products.{place-most}
 use Rattle.model.specs.Net.{Net, Marking, begin}
-use Rattle.model.specs.Lent.{bit, bytes, marking}
+use Rattle.model.specs.Lent.{bit, marking}
 use Rattle.model.specs.Runs.{atStart, byEvent}
 use Rattle.model.specs.Unfolding.{sameMarker, UnfoldedCondition, ordinary, copy, markers, users, unfoldedConditions, basic}
 use Rattle.model.specs.Numbering.{width, conditionCount}
-use Rattle.model.proofs.Lent.{bytes-at}
 use Rattle.model.proofs.Unfolded.{start-marks, event-marks}
 use Rattle.model.proofs.Counts.{marker-at, count-conditions, ordinary-from}
 use Rattle.refusal.specs.declared.Judged.{Judged}
@@ -33,7 +32,7 @@ use Rattle.tally.proofs.Events.{list-read}
 use Rattle.colours.specs.Colours.{flagged}
 use Rattle.layout.proofs.Counts.{sum-part, uses-at}
 use Rattle.copies.specs.Copies.{holdsBy}
-use Rattle.copies.specs.Writing.{Within, Fits, Ranged, ownCount, ownByte, copiesFrom, copiesCount, ListFits, Listed, Right, ownBelow, markedBelow, Roomy}
+use Rattle.copies.specs.Writing.{Within, Fits, Ranged, ownCount, ownHolds, copiesFrom, copiesCount, ListFits, Listed, Right, ownBelow, markedBelow, Roomy}
 use Rattle.copies.proofs.Ranges.{within-dec}
 use Rattle.copies.proofs.Where.{rangeOf, event-place, copy-at, ordinary-place, ordinary-kind, ordinary-below, copy-kind, copy-below, copy-marker, copy-within, event-marking}
 
@@ -139,18 +138,18 @@ module _ (s us bases : List ℕ) (room : ℕ) (g : Roomy s us bases room) where
       go true = omega arith
       go false = omega arith
 
-  module _ (start state : List ℕ) (started : start ≡ bytes 256 (begin (netOf s))) (lent : state ≡ bytes 256 (marking state)) (seen : ℕ → Bool) (b : ℕ) (h : b < netOf s .conditions)
-      (before out after : List ℕ) (r : Right (netOf s) (marking state) seen (ownBelow b) before out) where
-    own : (t : Bool) → netOf s .persistent b ≡ t → Ranged (getD bases b 0) (cond t (getD us b 0) 1) (cond t (getD start b 0) (getD state b 0)) out after
-        → Right (netOf s) (marking state) seen (ownBelow (b + 1)) before after
+  module _ (begun m : Marking) (started : begun ≡ begin (netOf s)) (seen : ℕ → Bool) (b : ℕ) (h : b < netOf s .conditions)
+      (before out after : List ℕ) (r : Right (netOf s) m seen (ownBelow b) before out) where
+    own : (t : Bool) → netOf s .persistent b ≡ t → Ranged (getD bases b 0) (cond t (getD us b 0) 1) (bit (cond t (begun b) (m b))) out after
+        → Right (netOf s) m seen (ownBelow (b + 1)) before after
     unfolding holdsBy markers begin
-    own true p q = right-range (netOf s) (marking state) seen (getD bases b 0) (getD us b 0) (getD start b 0) (ownBelow b) (ownBelow (b + 1)) before out after r q hit miss
+    own true p q = right-range (netOf s) m seen (getD bases b 0) (getD us b 0) (bit (begun b)) (ownBelow b) (ownBelow (b + 1)) before out after r q hit miss
       where
         hit : (k : ℕ) → Within (getD bases b 0) (getD us b 0) k
-            → (p : UnfoldedCondition) × (getElem? (unfoldedConditions (netOf s)) k ≡ some p) × (getD start b 0 ≡ bit (holdsBy (netOf s) (marking state) seen p))
+            → (p : UnfoldedCondition) × (getElem? (unfoldedConditions (netOf s)) k ≡ some p) × (bit (begun b) ≡ bit (holdsBy (netOf s) m seen p))
         hit k w =
             let x = copy-at (netOf s) b atStart h p (start-marks (netOf s) b) k (omega (arith, w .0, base b h), omega (arith, w .1, base b h, uses b h)) in
-            (copy b atStart (x .0), x .1, ap (λ (l : List ℕ). getD l b 0) started ∙ bytes-at 256 (begin (netOf s)) b (omega (arith, few)))
+            (copy b atStart (x .0), x .1, ap (λ (x : Marking). bit (x b)) started)
 
         miss : (k : ℕ) (x : UnfoldedCondition) → getElem? (unfoldedConditions (netOf s)) k ≡ some x → T (ownBelow (b + 1) x) → (Within (getD bases b 0) (getD us b 0) k → ⊥) → T (ownBelow b x)
         miss k (ordinary d) e t f =
@@ -160,14 +159,14 @@ module _ (s us bases : List ℕ) (room : ℕ) (g : Roomy s us bases room) where
             let w = subst (λ (y : ℕ). Within (rangeOf (netOf s) y atStart) (length (users (netOf s) y)) k) z (copy-within (netOf s) k d atStart v e) in
             f (omega (arith, w .0, base b h), omega (arith, w .1, base b h, uses b h)))
         miss k (copy d (byEvent x) v) e t f = t
-    own false p q = right-range (netOf s) (marking state) seen (getD bases b 0) 1 (getD state b 0) (ownBelow b) (ownBelow (b + 1)) before out after r q hit miss
+    own false p q = right-range (netOf s) m seen (getD bases b 0) 1 (bit (m b)) (ownBelow b) (ownBelow (b + 1)) before out after r q hit miss
       where
-        hit : (k : ℕ) → Within (getD bases b 0) 1 k → (p : UnfoldedCondition) × (getElem? (unfoldedConditions (netOf s)) k ≡ some p) × (getD state b 0 ≡ bit (holdsBy (netOf s) (marking state) seen p))
+        hit : (k : ℕ) → Within (getD bases b 0) 1 k → (p : UnfoldedCondition) × (getElem? (unfoldedConditions (netOf s)) k ≡ some p) × (bit (m b) ≡ bit (holdsBy (netOf s) m seen p))
         hit k w =
             let z : sum (width (netOf s)) b ≡ k = omega (arith, w .0, w .1, base b h) in (
               ordinary b,
               ap (λ (x : ℕ). getElem? (unfoldedConditions (netOf s)) x) (sym z) ∙ ordinary-from (netOf s) b h p,
-              ap (λ (l : List ℕ). getD l b 0) lent ∙ bytes-at 256 (marking state) b (omega (arith, few)),
+              refl,
             )
 
         miss : (k : ℕ) (x : UnfoldedCondition) → getElem? (unfoldedConditions (netOf s)) k ≡ some x → T (ownBelow (b + 1) x) → (Within (getD bases b 0) 1 k → ⊥) → T (ownBelow b x)
@@ -179,10 +178,10 @@ module _ (s us bases : List ℕ) (room : ℕ) (g : Roomy s us bases room) where
             lower d b t (λ z. not-true (netOf s .persistent d) (ap (netOf s .persistent) z ∙ p) (T-of (netOf s .persistent d) (copy-kind (netOf s) k d atStart v e)))
         miss k (copy d (byEvent x) v) e t f = t
 
-    pub own-next : Ranged (getD bases b 0) (ownCount s us b) (ownByte s start state b) out after → Right (netOf s) (marking state) seen (ownBelow (b + 1)) before after
+    pub own-next : Ranged (getD bases b 0) (ownCount s us b) (bit (ownHolds s begun m b)) out after → Right (netOf s) m seen (ownBelow (b + 1)) before after
     own-next q =
         own (netOf s .persistent b) refl
-        (subst (λ (t : Bool). Ranged (getD bases b 0) (cond t (getD us b 0) 1) (cond t (getD start b 0) (getD state b 0)) out after) (flags b) q)
+        (subst (λ (t : Bool). Ranged (getD bases b 0) (cond t (getD us b 0) 1) (bit (cond t (begun b) (m b))) out after) (flags b) q)
 
   -- ---- the copies that an event marks
 
@@ -254,9 +253,10 @@ module _ (s us bases : List ℕ) (room : ℕ) (g : Roomy s us bases room) where
       pub walk-fits : (out : List ℕ) → length out ≡ room → ListFits s us bases places (words l) out
       walk-fits out q = subst (λ (x : List ℕ). ListFits s us bases places x out) list-is (list-fits out q)
 
-      pub walk-event : (m : Marking) (seen : List ℕ) (value : ℕ) → seen ≡ bytes 256 (marking seen) → value ≡ getD seen e 0 → (before out after : List ℕ)
-          → Right (netOf s) m (marking seen) (markedBelow e) before out → Listed s us bases places (words l) value out after
+      pub walk-event : (m : Marking) (seen : List ℕ) (byte : ℕ) → byte ≡ getD seen e 0 → (before out after : List ℕ)
+          → Right (netOf s) m (marking seen) (markedBelow e) before out → Listed s us bases places (words l) (bit (eqb byte 1)) out after
           → Right (netOf s) m (marking seen) (markedBelow (e + 1)) before after
-      walk-event m seen value t v before out after r q =
-          event-next m (marking seen) value (v ∙ ap (λ (x : List ℕ). getD x e 0) t ∙ bytes-at 256 (marking seen) e (omega (arith, g .laid .counted .marked .limits .few-events))) before out after r
-          (subst (λ (x : List ℕ). Listed s us bases places x value out after) (sym list-is) q)
+      unfolding marking
+      walk-event m seen byte v before out after r q =
+          event-next m (marking seen) (bit (eqb byte 1)) (ap (λ (x : ℕ). bit (eqb x 1)) v) before out after r
+          (subst (λ (x : List ℕ). Listed s us bases places x (bit (eqb byte 1)) out after) (sym list-is) q)

@@ -8,7 +8,7 @@ use lib.Dec.{T, ltb}
 use lib.ListN.{length, getD, getElem?}
 use Rattle.lists.specs.Lists.{mem}
 use Rattle.model.specs.Net.{Net, Marking, begin}
-use Rattle.model.specs.Lent.{bit, bytes, marking}
+use Rattle.model.specs.Lent.{bit}
 use Rattle.model.specs.Runs.{atStart, byEvent}
 use Rattle.model.specs.Unfolding.{UnfoldedCondition, ordinary, copy, unfoldedConditions, basic}
 use Rattle.model.specs.Across.{mostUnfolded}
@@ -38,9 +38,9 @@ pub record Ranged (from count value : ℕ) (before after : List ℕ) : Type 0 wh
 abbrev pub ownCount : List ℕ → List ℕ → ℕ → ℕ
 ownCount s users b = cond (flagged s b) (getD users b 0) 1
 
--- What these bytes are: whether it holds, or whether it held at the start (01, Unfolding).
-abbrev pub ownByte : List ℕ → List ℕ → List ℕ → ℕ → ℕ
-ownByte s start state b = cond (flagged s b) (getD start b 0) (getD state b 0)
+-- What these bytes tell: whether it holds, or whether it held at the start (01, Unfolding).
+abbrev pub ownHolds : List ℕ → Marking → Marking → ℕ → Bool
+ownHolds s begun m b = cond (flagged s b) (begun b) (m b)
 
 -- Where the copies of a condition for the marker at its running place begin (01, Unfolding).
 abbrev pub copiesFrom : List ℕ → List ℕ → List ℕ → ℕ → ℕ
@@ -94,11 +94,10 @@ pub record Roomy (s users bases : List ℕ) (room : ℕ) : Type 0 where
   pub laid : Laid s markers users bases
   pub fits : basic (netOf s) .conditions ≤ room
 
--- Beside that its start and a marking of it are in 256 bytes each.
-pub record Prepared (s users bases start state : List ℕ) (room : ℕ) : Type 0 where
+-- Beside that a marking is its start.
+pub record Prepared (s users bases : List ℕ) (begun : Marking) (room : ℕ) : Type 0 where
   pub roomy : Roomy s users bases room
-  pub started : start ≡ bytes 256 (begin (netOf s))
-  pub lent : state ≡ bytes 256 (marking state)
+  pub started : begun ≡ begin (netOf s)
 
 -- Where all but what events mark was right, everything is now, whatever the table's marking is.
 abbrev pub EventsRight : Net → (ℕ → Bool) → List ℕ → List ℕ → Type 0

@@ -18,9 +18,11 @@ fn write_marking<'a>(
     bases: &'a [u32],
     state: &'a [u8],
     seen: &'a [u8],
+    places: &mut [u32],
     out: &mut [u8],
 ) -> Judged
-    requires { ⌜ Shown (now table) events (now users) (now bases) (now state) (now seen) ⌝ }
+    requires { ⌜ Shown (now table) events (now users) (now bases) (now state) ⌝ }
+    requires { ⌜ length (now places) ≡ 256 ⌝ }
     ensures answer { λ r. ⌜ r ≡ fitting (basic (netOf (now (table .entry))) .conditions) (length (now (out .entry))) ⌝ }
     ensures after { λ r. ⌜ now (out .exit) ≡ written r (copiesOf (netOf (now (table .entry))) (marking (now (state .entry))) (marking (now (seen .entry)))) (now (out .entry)) ⌝ }
 {
@@ -28,9 +30,9 @@ fn write_marking<'a>(
     if out.len() < count {
         return refusal::refused(16, count);
     }
-    let mut begun = [0u8; 256];
-    played::start(table, events, &mut begun);
-    copies::write_copies(table, events, users, bases, &begun, state, seen, out);
+    let begun = played::start_held(table, events);
+    let held = held::gather(state);
+    copies::write_copies(table, events, users, bases, begun, held, seen, places, out);
     Judged::Fine(count)
 }
 
@@ -69,7 +71,16 @@ pub fn unfolded_replay<'a>(table: &'a [u8], lifted: &'a [u16], end: &mut [u8]) -
     let Judged::Fine(_) = played else {
         return played;
     };
-    write_marking(table, events, &users, &bases, &state, &seen, end)
+    write_marking(
+        table,
+        events,
+        &users,
+        &bases,
+        &state,
+        &seen,
+        &mut markers,
+        end,
+    )
 }
 
 // A run lifted; the unfolded marking at the end of its lift is written to a lent output.

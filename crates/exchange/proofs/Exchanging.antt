@@ -1,4 +1,4 @@
--- The exchange on bytes is the model's: the marking before step k, the part that is swapped, and the chain of refusals.
+-- The exchange is the model's: the marking before step k, the part that is swapped, and the chain of refusals.
 use Prim.Native.Nat.{ℕ, zero, suc, _-_, _≤_, _<_}
 use native.Mathlib.Omega.{arith}
 use mathlib.Core.Path.{_≡_, refl, sym, ap, _∙_, subst}
@@ -23,7 +23,7 @@ use Rattle.refusal.specs.Answer.{refusedAt}
 use Rattle.table.specs.Walk.{judgeOf}
 use Rattle.table.specs.Decoded.{netOf}
 use Rattle.table.proofs.Decoded.{net-judged}
-use Rattle.model.specs.Lent.{marking}
+use Rattle.held.specs.Held.{heldIn}
 use Rattle.table.specs.Links.{refusedOr}
 use Rattle.table.proofs.Links.{links-open, links-refused, links-fine}
 use Rattle.played.specs.Begun.{begunAt}
@@ -50,7 +50,7 @@ module _ (s : List ℕ) (n : ℕ) (offsets r : List ℕ) (k : ℕ) (x : Exchange
   pub step-found : (i : ℕ) → i < length r → Found s (getD r i 0) (getD offsets (getD r i 0) 0)
   step-found i h = record { events = n; judged = x .judged; below = step-below i h; place = x .indexed .each (getD r i 0) (step-below i h) }
 
-  before-is : (answer : Judged) (l : List ℕ) → Plays (netOf s) (begin (netOf s)) (take k r) answer l → marking l ≡ end (netOf s) (begin (netOf s)) (take k r)
+  before-is : (answer : Judged) (l : List ℕ) → Plays (netOf s) (begin (netOf s)) (take k r) answer l → heldIn l ≡ end (netOf s) (begin (netOf s)) (take k r)
   unfolding begunAt
   before-is answer l p =
       let next = x .next in
@@ -59,10 +59,10 @@ module _ (s : List ℕ) (n : ℕ) (offsets r : List ℕ) (k : ℕ) (x : Exchange
       p .reached (netOf s .conditions) (p .told ∙ rw (short, free))
 
   pub apart-asked : (a i : ℕ) → a ≡ k → i ≡ suc k → (answer : Judged) (l : List ℕ) → Plays (netOf s) (begin (netOf s)) (take a r) answer l
-      → apart (netOf s) (marking l) (getD r k 0) (getD r i 0) ≡ apartStep (netOf s) (begin (netOf s)) r k
+      → apart (netOf s) (heldIn l) (getD r k 0) (getD r i 0) ≡ apartStep (netOf s) (begin (netOf s)) r k
   unfolding apartStep
   apart-asked a i isA isI answer l p =
-      ap (λ (y : ℕ). apart (netOf s) (marking l) (getD r k 0) (getD r y 0)) isI
+      ap (λ (y : ℕ). apart (netOf s) (heldIn l) (getD r k 0) (getD r y 0)) isI
       ∙ ap (λ (m : Marking). apart (netOf s) m (getD r k 0) (getD r (suc k) 0)) (before-is answer l (subst (λ (y : ℕ). Plays (netOf s) (begin (netOf s)) (take y r) answer l) isA p))
 
 -- ---- whether there is a step k + 1

@@ -21,9 +21,9 @@ fn apart_steps<'a>(
     requires { ⌜ Exchangeable (now table) n (now offsets) (now run) k ⌝ }
     ensures { λ r. ⌜ r ≡ apartStep (netOf (now (table .entry))) (begin (netOf (now (table .entry)))) (now (run .entry)) k ⌝ }
 {
-    let mut before = [0u8; 256];
-    played::start(table, n, &mut before);
-    let _ = played::play(table, n, offsets, &run[0..k], &mut before);
+    let start = played::start_held(table, n);
+    let played = played::play(table, n, offsets, &run[0..k], start);
+    let before = played.held;
     let e = run[k];
     let f = run[k + 1];
     apart::apart_at(
@@ -32,7 +32,7 @@ fn apart_steps<'a>(
         offsets[e as usize],
         f,
         offsets[f as usize],
-        &before,
+        before,
     )
 }
 
@@ -68,11 +68,11 @@ pub fn exchange(table: &[u8], run: &mut [u16], k: usize) -> Judged
     };
     let mut offsets = [0usize; 256];
     played::fill(table, n, &mut offsets);
-    let mut state = [0u8; 256];
-    played::start(table, n, &mut state);
-    let played = played::play(table, n, &offsets, &run[..], &mut state);
-    let Judged::Fine(_) = played else {
-        return played;
+    let start = played::start_held(table, n);
+    let played = played::play(table, n, &offsets, &run[..], start);
+    let answer = played.answer;
+    let Judged::Fine(_) = answer else {
+        return answer;
     };
     if has_next(run.len(), k) {
         if apart_steps(table, n, &offsets, &run[..], k) {

@@ -1,12 +1,16 @@
 -- An event found in a judged table by its offset: the net of its record alone plays it as the table's net does.
 use Prim.Native.Nat.{ℕ, _≤_, _<_}
-use mathlib.Core.Path.{_≡_, refl, sym, ap, _∙_}
+use native.Mathlib.Omega.{arith}
+use mathlib.Core.Path.{_≡_, refl, sym, ap, _∙_, subst}
 use mathlib.Core.Bool.{Bool, true, false}
 use mathlib.Core.Option.{Option, none, some}
 use mathlib.Core.List.{List}
-use lib.Dec.{ltb}
+use lib.Dec.{T, ltb}
 use lib.ListN.{length}
 use borrow.Author.Tests.{lt-ltb, le-ltb, ltb-true}
+use Rattle.lists.specs.Lists.{fits}
+use Rattle.lists.proofs.Bools.{T-of}
+use Rattle.lists.proofs.Tests.{fits-ascends, fits-in, fits-of}
 use Rattle.model.specs.Net.{Marking, free, lacking, contact, fire, Stop, unknown, lacks, meets, stopping}
 use Rattle.model.specs.Across.{ofTable, stopped}
 use Rattle.refusal.specs.declared.Refusal.{Refusal}
@@ -14,18 +18,21 @@ use Rattle.refusal.specs.declared.Judged.{Judged}
 use Rattle.refusal.specs.declared.Judged.the-variants.{Fine, Refused}
 use Rattle.refusal.specs.Answer.{need, andThen}
 use Rattle.refusal.proofs.Chain.{need-fine, goes-on}
-use Rattle.records.specs.Records.{conditions}
+use Rattle.words.specs.Words.{words}
+use Rattle.records.specs.Records.{conditions, prePart, postPart}
 use Rattle.table.specs.Walk.{judgeOf, offsetOf}
 use Rattle.table.specs.Decoded.{netOf}
 use Rattle.table.specs.Links.{refusing, refusedOr}
+use Rattle.table.proofs.Walk.{accepted}
 use Rattle.table.proofs.Decoded.{net-judged, conditions-are-all}
 use Rattle.step.specs.declared.Cause.the-variants.{Unknown}
 use Rattle.step.specs.declared.Step.{Step}
 use Rattle.step.specs.declared.Step.the-variants.{Stops}
 use Rattle.model.specs.Lent.{bytes, marking}
 use Rattle.step.specs.Lent.{Lent}
+use Rattle.step.specs.Tests.{Recorded}
 use Rattle.game.specs.Lent.{lent}
-use Rattle.step.specs.Steps.{recordNet, causeOf, stepOf, stepped, stoppedAt, answeredOf}
+use Rattle.step.specs.Steps.{listsNet, recordNet, causeOf, stepOf, stepped, stoppedAt, answeredOf}
 use Rattle.game.specs.Calls.{onMarking, leaves, firingStopped, firingOf, firedOf}
 use Rattle.game.specs.Ready.{readyOf}
 use Rattle.game.proofs.Marked.{on-then, on-fine}
@@ -34,7 +41,7 @@ use Rattle.game.proofs.Marked.{on-then, on-fine}
 
 module _ (s : List ℕ) (n : ℕ) (j : judgeOf s ≡ Fine n) (e : ℕ) where
   pub stopping-found : e < n → (m : Marking) → stopping (netOf s) m e ≡ stopping (recordNet s (offsetOf s e)) m 0
-  unfolding stopping lacking contact free recordNet
+  unfolding stopping lacking contact free recordNet listsNet
   stopping-found h m = rw (net-judged s (Fine n) j, lt-ltb e n h)
 
   pub stopping-unknown : (ltb e n ≡ false) → (m : Marking) → stopping (netOf s) m e ≡ some unknown
@@ -42,8 +49,22 @@ module _ (s : List ℕ) (n : ℕ) (j : judgeOf s ≡ Fine n) (e : ℕ) where
   stopping-unknown h m = rw (net-judged s (Fine n) j, h)
 
   pub fire-found : (m : Marking) → fire (netOf s) m e ≡ fire (recordNet s (offsetOf s e)) m 0
-  unfolding fire recordNet
+  unfolding fire recordNet listsNet
   fire-found m = rw (net-judged s (Fine n) j)
+
+  -- its lists ascend and name conditions that there are
+  pub listed-found : e < n → Recorded s (offsetOf s e)
+  listed-found h =
+      let a = accepted s n j in
+      record {
+        pre-fits = wider (words (prePart s (offsetOf s e))) (a .conditionsFine .most) (a .event e h .preAscends);
+        post-fits = wider (words (postPart s (offsetOf s e))) (a .conditionsFine .most) (a .event e h .postAscends);
+      }
+    where
+      wider : (l : List ℕ) → conditions s ≤ 256 → fits (conditions s) l ≡ true → T (fits 256 l)
+      wider l h e =
+          let t = T-of (fits (conditions s) l) e in
+          fits-of 256 l (fits-ascends (conditions s) l t) (λ b i. let q = fits-in (conditions s) l t b i in omega arith)
 
 -- ---- a step by the event's number, on bytes l
 
@@ -95,13 +116,25 @@ module _ (s m : List ℕ) (e : ℕ) where
     pub lents : Lent m
     pub below : e < events
     pub place : at ≡ offsetOf s e
+    pub listed : Recorded s at
 
   pub ready-fine : (at : ℕ) → readyOf s m e ≡ Fine at → Ready at
   unfolding readyOf
   ready-fine at h =
       let k = on-fine s m (λ n. need (ltb e n) 10 0 (Fine (offsetOf s e))) at h in
       let (t, f) = need-fine (ltb e (k .events)) 10 0 at (Fine (offsetOf s e)) (k .goes) in
-      record { events = k .events; judged = k .judged; long = k .long; few = k .few; lents = k .lents; below = ltb-true e (k .events) t; place = cc f }
+      let low = ltb-true e (k .events) t in
+      let place : at ≡ offsetOf s e = cc f in
+      record {
+        events = k .events;
+        judged = k .judged;
+        long = k .long;
+        few = k .few;
+        lents = k .lents;
+        below = low;
+        place = place;
+        listed = subst (Recorded s) (sym place) (listed-found s (k .events) (k .judged) e low);
+      }
 
 -- ---- concession and firing, from the event that was found
 

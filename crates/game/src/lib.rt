@@ -4,13 +4,29 @@ use refusal::TableEvent;
 ghost use mathlib.Core.Path.{_≡_};
 ghost use Rattle.refusal.specs.declared.Judged.the-variants.{Fine};
 ghost use Rattle.game.specs.Lent.{firstAbove};
-ghost use Rattle.game.specs.Ready.{readyOf};
+ghost use Rattle.game.specs.Ready.{NoneAbove, readyOf};
 ghost use Rattle.game.specs.Calls.{onMarking, concessionOf, fireOf, firedOf};
+
+// The bits of all bytes together, which no byte is above: a loop with no branch, so that many bytes are looked at at once.
+fn together(state: &[u8]) -> u8
+    ensures { λ r. ⌜ NoneAbove (now (state .entry)) r ⌝ }
+{
+    let mut bits: u8 = 0;
+    let mut i: usize = 0;
+    while i < state.len() {
+        bits = bits | state[i];
+        i = i + 1;
+    }
+    bits
+}
 
 // The index of the first byte above 1, or the length.
 pub fn first_above(state: &[u8]) -> usize
     ensures { λ r. ⌜ r ≡ firstAbove (now (state .entry)) ⌝ }
 {
+    if together(state) <= 1 {
+        return state.len();
+    }
     let mut i: usize = 0;
     while i < state.len() {
         if 1 < state[i] {
@@ -75,6 +91,6 @@ pub fn fire(table: &[u8], marking: &mut [u8], event: TableEvent) -> Judged
     let Judged::Fine(at) = asked else {
         return asked;
     };
-    let count = records::conditions(table) as usize;
+    let count = marking.len();
     step::answered(step::step_at(table, at, marking), count)
 }

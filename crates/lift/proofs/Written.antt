@@ -8,7 +8,7 @@ use mathlib.Core.List.{List, [], _∷_, _++_}
 use lib.ListN.{length, getD, take, drop, set, length-set}
 use lib.Seq.{drop-cons, take-length, getD-set-same, getD-set-other}
 use Rattle.model.specs.Across.{mostUnfolded}
-use Rattle.played.proofs.Copying.{Copied, copy-on, copy-end}
+use Rattle.held.proofs.Copying.{Copied, copy-on, copy-end}
 use Rattle.lift.specs.Played.{numbersFor, Writing}
 
 pub numbers-long : (later numbers r : List ℕ) → length (numbersFor later numbers r) ≡ length r

@@ -85,11 +85,11 @@ pub fn lift<'a>(table: &'a [u8], run: &'a [u16], out: &mut [u16]) -> Judged
     };
     let mut offsets = [0usize; 256];
     played::fill(table, events, &mut offsets);
-    let mut state = [0u8; 256];
-    played::start(table, events, &mut state);
-    let played = played::play(table, events, &offsets, run, &mut state);
-    let Judged::Fine(_) = played else {
-        return played;
+    let start = played::start_held(table, events);
+    let played = played::play(table, events, &offsets, run, start);
+    let answer = played.answer;
+    let Judged::Fine(_) = answer else {
+        return answer;
     };
     lift_played(table, events, &markers, &users, &before, &offsets, run, out)
 }

@@ -1,4 +1,4 @@
--- The index of a table's offsets as it is filled, and the bytes of its start.
+-- The index of a table's offsets as it is filled, and its start as bytes and as words.
 use Prim.Native.Nat.{ℕ, zero, suc, _+_, _≤_, _<_}
 use native.Mathlib.Numerals.{add-one}
 use native.Mathlib.Omega.{arith}
@@ -10,6 +10,7 @@ use lib.Dec.{eqb}
 use lib.ListN.{length, getD, set, replicate, length-set}
 use lib.Seq.{getD-set-same, getD-set-other}
 use borrow.Author.Tests.{eqb-true, eqb-false}
+use Rattle.lists.proofs.Bools.{is-false}
 use Rattle.lists.specs.Lists.{mem}
 use Rattle.model.specs.Net.{begin}
 use Rattle.refusal.specs.declared.Judged.the-variants.{Fine}
@@ -18,7 +19,11 @@ use Rattle.records.specs.Records.{front, conditions, markingPart}
 use Rattle.table.specs.Walk.{judgeOf, offsetFrom, offsetOf}
 use Rattle.table.specs.Decoded.{netOf}
 use Rattle.table.proofs.Walk.{accepted}
+use Rattle.table.proofs.Sound.{accepted-sound}
+use Rattle.table.proofs.Sound as net
 use Rattle.table.proofs.Decoded.{start-read}
+use Rattle.held.specs.Held.{heldIn, tabled}
+use Rattle.held.proofs.Words.{tabled-tidy}
 use Rattle.model.specs.Lent.{bytes}
 use Rattle.step.specs.Steps.{setAll}
 use Rattle.played.specs.Played.{Indexed}
@@ -70,3 +75,11 @@ unfolding begin
 start-put s n j part l at isAt isPart zeros =
     ap (setAll [] 1 (words part)) zeros ∙ put-all (words part) 256
     ∙ ap (λ (bs : List ℕ). bytes 256 (λ b. mem b bs)) (ap words (isPart ∙ ap (markingPart s) isAt) ∙ start-read s n j)
+
+pub start-collected : (s : List ℕ) (n : ℕ) → judgeOf s ≡ Fine n → (part held : List ℕ) (at : ℕ) → at ≡ offsetOf s n → part ≡ markingPart s at
+    → heldIn held ≡ tabled (λ b. mem b (words part)) → heldIn held ≡ begin (netOf s)
+unfolding begin
+start-collected s n j part held at isAt isPart is =
+    is ∙ ap (λ (bs : List ℕ). tabled (λ b. mem b bs)) (ap words (isPart ∙ ap (markingPart s) isAt) ∙ start-read s n j)
+    ∙ tabled-tidy (λ b. mem b (netOf s .start)) (λ b h.
+    is-false (mem b (netOf s .start)) (λ i. omega (arith, accepted-sound s n j .start-in b i, net.tabled s n j .few-conditions)))

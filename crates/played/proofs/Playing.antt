@@ -1,4 +1,4 @@
--- A run played on bytes, a step at a time: what has been played is a run of the model, and what stops it is what the model's replay says.
+-- A run played on words, a step at a time: what has been played is a run of the model, and what stops it is what the model's replay says.
 use Prim.Native.Nat.{ℕ, suc, _+_, _≤_, _<_}
 use native.Mathlib.Numerals.{add-one}
 use native.Mathlib.Nat.{zero-add}
@@ -25,15 +25,15 @@ use borrow.Author.Tests.{lt-leb}
 use Rattle.step.specs.declared.Cause.{Cause}
 use Rattle.step.specs.declared.Step.{Step}
 use Rattle.step.specs.declared.Step.the-variants.{Goes, Stops}
-use Rattle.step.specs.Steps.{causeOf, stepOf, stepped, stoppedAt}
+use Rattle.held.specs.Held.{heldIn}
+use Rattle.step.specs.Tests.{moved}
+use Rattle.step.specs.Steps.{causeOf, stepOf, stoppedAt}
 use Rattle.game.proofs.Found.{stopped-is}
 use Rattle.model.specs.Lent.{bytes, marking}
-use Rattle.step.specs.Lent.{Lent}
 use Rattle.played.specs.Begun.{begunAt}
 use Rattle.played.specs.Played.{Plays}
 use Rattle.table.specs.Links.{refusing}
-use Rattle.model.proofs.Lent.{length-bytes, tidy-marking, marking-bytes}
-use Rattle.step.proofs.Bytes.{lent-bytes}
+use Rattle.model.proofs.Lent.{tidy-marking, marking-bytes}
 
 -- ---- one step more
 
@@ -54,34 +54,28 @@ fired-marking n s l e h c =
 
 -- ---- a run that has come to step k
 
-pub record Going (n : Net) (m : Marking) (r : List ℕ) (k c : ℕ) (l : List ℕ) : Type 0 where
+pub record Going (n : Net) (m : Marking) (r : List ℕ) (k : ℕ) (held : List ℕ) : Type 0 where
   pub upto : k ≤ length r
-  pub long : length l ≡ c
-  pub lents : Lent l
-  pub here : marking l ≡ end n m (take k r)
+  pub here : heldIn held ≡ end n m (take k r)
   pub plays : T (runs n m (take k r))
 
-pub going-start : (n : Net) (r l : List ℕ) → Lent l → Going n (marking l) r 0 (length l) l
+pub going-start : (n : Net) (r held : List ℕ) → Going n (heldIn held) r 0 held
 unfolding end runs
-going-start n r l h = record { upto = omega arith; long = refl; lents = h; here = refl; plays = tt }
+going-start n r held = record { upto = omega arith; here = refl; plays = tt }
 
-module _ (n : Net) (m : Marking) (r : List ℕ) (k c : ℕ) (l : List ℕ) (g : Going n m r k c l) where
+module _ (n : Net) (m : Marking) (r : List ℕ) (k : ℕ) (held : List ℕ) (g : Going n m r k held) where
   module _ (h : k < length r) where
-    pub going-on : Sound n → n .conditions ≤ c → stopping n (marking l) (getD r k 0) ≡ none
-        → (new : List ℕ) → new ≡ bytes (length l) (fire n (marking l) (getD r k 0)) → Going n m r (k + 1) c new
-    going-on s room o new e =
-        let can-fire = none-can n (marking l) (getD r k 0) o in
+    pub going-on : stopping n (heldIn held) (getD r k 0) ≡ none → (new : List ℕ) → heldIn new ≡ fire n (heldIn held) (getD r k 0) → Going n m r (k + 1) new
+    going-on o new e =
+        let can-fire = none-can n (heldIn held) (getD r k 0) o in
         let next : take (k + 1) r ≡ take k r ++ (getD r k 0 ∷ []) = rw add-one (take-suc r k 0 h) in
         record {
           upto = omega arith;
-          long = ap length e ∙ length-bytes (length l) (fire n (marking l) (getD r k 0)) ∙ g .long;
-          lents = rw e (lent-bytes (length l) (fire n (marking l) (getD r k 0)));
-          here = ap marking e ∙ fired-marking n s l (getD r k 0) (omega (arith, g .long)) can-fire
-              ∙ ap (λ (x : Marking). fire n x (getD r k 0)) (g .here) ∙ sym (end-snoc n m (take k r) (getD r k 0)) ∙ ap (end n m) (sym next);
+          here = e ∙ ap (λ (x : Marking). fire n x (getD r k 0)) (g .here) ∙ sym (end-snoc n m (take k r) (getD r k 0)) ∙ ap (end n m) (sym next);
           plays = rw next (runs-snoc n m (take k r) (getD r k 0) (g .plays) (subst (λ (x : Marking). T (can n x (getD r k 0))) (g .here) can-fire));
         }
 
-    pub going-stop : (v : Stop) → stopping n (marking l) (getD r k 0) ≡ some v → stuck ofTable (replay n 0 (begunAt n m) r) ≡ some (stopped ofTable v k)
+    pub going-stop : (v : Stop) → stopping n (heldIn held) (getD r k 0) ≡ some v → stuck ofTable (replay n 0 (begunAt n m) r) ≡ some (stopped ofTable v k)
     unfolding begunAt
     going-stop v o =
         ap (stuck ofTable) (stops-replay n 0 (begunAt n m) r v k record {
@@ -98,7 +92,7 @@ module _ (n : Net) (m : Marking) (r : List ℕ) (k c : ℕ) (l : List ℕ) (g : 
     whole : take k r ≡ r
     whole = take-all k r h
 
-    pub going-end : marking l ≡ end n m r
+    pub going-end : heldIn held ≡ end n m r
     going-end = g .here ∙ ap (end n m) whole
 
     pub going-free : stuck ofTable (replay n 0 (begunAt n m) r) ≡ none
@@ -115,39 +109,26 @@ step-some : (o : Option Stop) (q : Step) (x : Cause) → q ≡ stepOf o → q �
 step-some none q x e h = absurd (let z : _≡_ {A = ℕ} 0 1 = cc in omega arith)
 step-some (some v) q x e h = (v, refl, cc)
 
-module _ (n : Net) (m : Marking) (r : List ℕ) (k c : ℕ) (l : List ℕ) (g : Going n m r k c l) (h : k < length r) (q : Step)
-    (told : q ≡ stepOf (stopping n (marking l) (getD r k 0))) (new : List ℕ)
-    (left : new ≡ stepped (stopping n (marking l) (getD r k 0)) (bytes (length l) (fire n (marking l) (getD r k 0))) l) where
-  pub step-on : Sound n → n .conditions ≤ c → q ≡ Goes → Going n m r (k + 1) c new
-  step-on s room e =
-      let o = step-none (stopping n (marking l) (getD r k 0)) q told e in
-      going-on n m r k c l g h s room o new (left ∙ rw o)
+module _ (n : Net) (m : Marking) (r : List ℕ) (k : ℕ) (held : List ℕ) (g : Going n m r k held) (h : k < length r) (q : Step)
+    (told : q ≡ stepOf (stopping n (heldIn held) (getD r k 0))) where
+  pub step-on : (new : List ℕ) → heldIn new ≡ moved (stopping n (heldIn held) (getD r k 0)) (fire n (heldIn held) (getD r k 0)) (heldIn held) → q ≡ Goes → Going n m r (k + 1) new
+  step-on new left e =
+      let o = step-none (stopping n (heldIn held) (getD r k 0)) q told e in
+      going-on n m r k held g h o new (left ∙ rw o)
 
-  pub step-ends : n .conditions ≤ c → length r ≤ mostSteps → (x : Cause) → q ≡ Stops x → (answer : Judged) → answer ≡ stoppedAt x k → Plays n m r answer new
-  step-ends room short x e answer a =
-      let (v, o, z) = step-some (stopping n (marking l) (getD r k 0)) q x told e in
-      let kept : new ≡ l = left ∙ rw o in
+  pub step-ends : length r ≤ mostSteps → (x : Cause) → q ≡ Stops x → (answer : Judged) → answer ≡ stoppedAt x k → Plays n m r answer held
+  step-ends short x e answer a =
+      let (v, o, z) = step-some (stopping n (heldIn held) (getD r k 0)) q x told e in
       let is : answer ≡ refusing (stopped ofTable v k) = a ∙ ap (λ (y : Cause). stoppedAt y k) z ∙ stopped-is v k in
-      record {
-        told = is ∙ rw (length-short r short, going-stop n m r k c l g h v o);
-        lents = subst (λ (y : List ℕ). Lent y) (sym kept) (g .lents);
-        room = omega (arith, ap length kept, g .long);
-        reached = λ y f. never-both (sym f ∙ is);
-      }
+      record { told = is ∙ rw (length-short r short, going-stop n m r k held g h v o); reached = λ y f. never-both (sym f ∙ is) }
 
 -- ---- a run that is too long, and one that comes to its end
 
-pub too-long : (n : Net) (m : Marking) (r l : List ℕ) → Lent l → n .conditions ≤ length l → mostSteps < length r → (answer : Judged) → answer ≡ refusedAt 3 0 → Plays n m r answer l
+pub too-long : (n : Net) (m : Marking) (r held : List ℕ) → mostSteps < length r → (answer : Judged) → answer ≡ refusedAt 3 0 → Plays n m r answer held
 unfolding tooLong
-too-long n m r l h room long answer a =
-    record { told = a ∙ rw (lt-leb (length r) mostSteps long); lents = h; room = room; reached = λ x f. never-both (sym f ∙ a) }
+too-long n m r held long answer a = record { told = a ∙ rw (lt-leb (length r) mostSteps long); reached = λ x f. never-both (sym f ∙ a) }
 
-pub comes-to-end : (n : Net) (m : Marking) (r : List ℕ) (k c : ℕ) (l : List ℕ) → Going n m r k c l → n .conditions ≤ c → length r ≤ k → length r ≤ mostSteps → (x : ℕ) → x ≡ n .conditions
-    → Plays n m r (Fine x) l
-comes-to-end n m r k c l g room h short x e =
-    record {
-      told = rw (length-short r short, going-free n m r k c l g h) (ap Fine e);
-      lents = g .lents;
-      room = omega (arith, g .long);
-      reached = λ y f. going-end n m r k c l g h;
-    }
+pub comes-to-end : (n : Net) (m : Marking) (r : List ℕ) (k : ℕ) (held : List ℕ) → Going n m r k held → length r ≤ k → length r ≤ mostSteps → (x : ℕ) → x ≡ n .conditions
+    → Plays n m r (Fine x) held
+comes-to-end n m r k held g h short x e =
+    record { told = rw (length-short r short, going-free n m r k held g h) (ap Fine e); reached = λ y f. going-end n m r k held g h }

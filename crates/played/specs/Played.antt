@@ -1,4 +1,4 @@
--- What the inner functions of a run need and leave: the index of all offsets, and a run played on bytes.
+-- What the inner functions of a run need and leave: the index of all offsets, bytes to be played on, and a run played on words.
 use mathlib.Core.Path.{_≡_}
 use mathlib.Core.List.{List}
 use Prim.Native.Nat.{ℕ, _≤_, _<_}
@@ -11,7 +11,7 @@ use Rattle.refusal.specs.declared.Judged.the-variants.{Fine}
 use Rattle.records.specs.Records.{conditions}
 use Rattle.table.specs.Walk.{judgeOf, offsetOf}
 use Rattle.table.specs.Links.{refusedOr}
-use Rattle.model.specs.Lent.{marking}
+use Rattle.held.specs.Held.{heldIn}
 use Rattle.step.specs.Lent.{Lent}
 use Rattle.played.specs.Begun.{begunAt}
 
@@ -28,10 +28,8 @@ pub record Playable (s : List ℕ) (n : ℕ) (offsets l : List ℕ) : Type 0 whe
   pub lents : Lent l
   pub room : (conditions s ≤ length l) × (length l ≤ 256)
 
--- A run played from a marking: the answer is 3, then what its steps say, and where it is fine the bytes are those of the end (01,
+-- A run played from a marking: the answer is 3, then what its steps say, and where it is fine the words tell the marking at the end (01,
 -- Refusal numbers).
-pub record Plays (n : Net) (m : Marking) (r : List ℕ) (answer : Judged) (l : List ℕ) : Type 0 where
+pub record Plays (n : Net) (m : Marking) (r : List ℕ) (answer : Judged) (held : List ℕ) : Type 0 where
   pub told : answer ≡ refusedOr (tooLong r) (refusedOr (stuck ofTable (replay n 0 (begunAt n m) r)) (Fine (n .conditions)))
-  pub lents : Lent l
-  pub room : n .conditions ≤ length l
-  pub reached : (x : ℕ) → answer ≡ Fine x → marking l ≡ end n m r
+  pub reached : (x : ℕ) → answer ≡ Fine x → heldIn held ≡ end n m r

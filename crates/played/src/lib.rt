@@ -1,19 +1,28 @@
-// A run of a judged table played on bytes: where its events stand, where it starts, step after step, and its end copied to a lent output.
+// A run of a judged table played on words: where its events stand, where it starts, step after step, and its end written to a lent
+// output; and the start and a step on lent bytes.
 use refusal::Judged;
 use step::Cause;
+use step::Moved;
 use step::Step;
 ghost use mathlib.Core.Path.{_≡_};
-ghost use mathlib.Core.List.{_++_};
 ghost use Prim.Native.Nat.{_≤_};
-ghost use lib.ListN.{length, take, drop, replicate};
+ghost use lib.ListN.{length, replicate};
 ghost use Rattle.model.specs.Net.{begin, stopping, fire};
 ghost use Rattle.table.specs.Walk.{judgeOf};
 ghost use Rattle.table.specs.Decoded.{netOf};
 ghost use Rattle.refusal.specs.Answer.{fitting, written};
 ghost use Rattle.model.specs.Lent.{bytes, marking};
 ghost use Rattle.refusal.specs.declared.Judged.the-variants.{Fine};
+ghost use Rattle.held.specs.Held.{heldIn};
+ghost use Rattle.step.specs.Tests.{Keeps, moved};
 ghost use Rattle.step.specs.Steps.{stepOf, stepped};
 ghost use Rattle.played.specs.Played.{Indexed, Playable, Plays};
+
+// What a run answers, and the marking that it comes to.
+pub struct Played {
+    pub answer: Judged,
+    pub held: [u64; 4],
+}
 
 // The offset of each event of a judged table, by its number.
 pub fn fill(table: &[u8], n: usize, offsets: &mut [usize])
@@ -38,7 +47,15 @@ pub fn start(table: &[u8], n: usize, state: &mut [u8])
     step::set_all(&table[..0], list, 1, state);
 }
 
-// One step of the game by the number of an event.
+// The marking at the start of a judged table.
+pub fn start_held(table: &[u8], n: usize) -> [u64; 4]
+    requires { ⌜ judgeOf (now table) ≡ Fine n ⌝ }
+    ensures { λ r. ⌜ heldIn r ≡ begin (netOf (now (table .entry))) ⌝ }
+{
+    held::collect(records::marking_at(table, table::offset(table, n as u16)))
+}
+
+// One step of the game on lent bytes by the number of an event.
 pub fn step_event<'a>(
     table: &'a [u8],
     n: usize,
@@ -56,52 +73,74 @@ pub fn step_event<'a>(
     step::step_at(table, offsets[e as usize], state)
 }
 
-// A run of a judged table played from the marking in its bytes; fine: the number of conditions.
+// One step of the game on words by the number of an event.
+fn move_event<'a>(
+    table: &'a [u8],
+    n: usize,
+    offsets: &'a [usize],
+    e: u16,
+    kept: [u64; 4],
+    held: [u64; 4],
+) -> Moved
+    requires { ⌜ (judgeOf (now table) ≡ Fine n) × Indexed (now table) n (now offsets) × Keeps (now table) kept ⌝ }
+    ensures answer { λ r. ⌜ r .step ≡ stepOf (stopping (netOf (now (table .entry))) (heldIn held) e) ⌝ }
+    ensures after { λ r. ⌜ heldIn (r .held) ≡ moved (stopping (netOf (now (table .entry))) (heldIn held) e) (fire (netOf (now (table .entry))) (heldIn held) e) (heldIn held) ⌝ }
+{
+    if n <= (e as usize) {
+        return Moved {
+            step: Step::Stops(Cause::Unknown),
+            held,
+        };
+    }
+    step::move_at(table, offsets[e as usize], kept, held)
+}
+
+// A run of a judged table played from a marking; fine: the number of conditions.
 pub fn play<'a>(
     table: &'a [u8],
     n: usize,
     offsets: &'a [usize],
     run: &'a [u16],
-    state: &mut [u8],
-) -> Judged
-    requires { ⌜ Playable (now table) n (now offsets) (now state) ⌝ }
-    ensures { λ r. ⌜ Plays (netOf (now (table .entry))) (marking (now (state .entry))) (now (run .entry)) r (now (state .exit)) ⌝ }
+    start: [u64; 4],
+) -> Played
+    requires { ⌜ (judgeOf (now table) ≡ Fine n) × Indexed (now table) n (now offsets) ⌝ }
+    ensures { λ r. ⌜ Plays (netOf (now (table .entry))) (heldIn start) (now (run .entry)) (r .answer) (r .held) ⌝ }
 {
+    let mut held = start;
     if refusal::MOST_STEPS < run.len() {
-        return refusal::refused(3, 0);
+        return Played {
+            answer: refusal::refused(3, 0),
+            held,
+        };
     }
+    let kept = step::kept(table);
     let mut k: usize = 0;
     while k < run.len() {
-        let step = step_event(table, n, offsets, run[k], state);
+        let moved = move_event(table, n, offsets, run[k], kept, held);
+        let step = moved.step;
         if let Step::Stops(cause) = step {
-            return step::stopped_at(cause, k);
+            return Played {
+                answer: step::stopped_at(cause, k),
+                held,
+            };
         }
+        held = moved.held;
         k = k + 1;
     }
-    Judged::Fine(records::conditions(table) as usize)
-}
-
-// The first bytes of one slice over those of another.
-pub fn copy_front(from: &[u8], count: usize, out: &mut [u8])
-    requires { ⌜ (count ≤ length (now from)) × (count ≤ length (now out)) ⌝ }
-    ensures { λ _. ⌜ now (out .exit) ≡ take count (now (from .entry)) ++ drop count (now (out .entry)) ⌝ }
-{
-    let mut i: usize = 0;
-    while i < count {
-        out[i] = from[i];
-        i = i + 1;
+    Played {
+        answer: Judged::Fine(records::conditions(table) as usize),
+        held,
     }
 }
 
 // The end of a run over the first bytes of a lent output, where it has room.
-pub fn write_end(state: &[u8], count: usize, end: &mut [u8]) -> Judged
-    requires { ⌜ count ≤ length (now state) ⌝ }
+pub fn write_end(held: [u64; 4], count: usize, end: &mut [u8]) -> Judged
     ensures answer { λ r. ⌜ r ≡ fitting count (length (now (end .entry))) ⌝ }
-    ensures after { λ r. ⌜ now (end .exit) ≡ written r (take count (now (state .entry))) (now (end .entry)) ⌝ }
+    ensures after { λ r. ⌜ now (end .exit) ≡ written r (bytes count (heldIn held)) (now (end .entry)) ⌝ }
 {
     if end.len() < count {
         return refusal::refused(16, count);
     }
-    copy_front(state, count, end);
+    held::spread(held, count, end);
     Judged::Fine(count)
 }

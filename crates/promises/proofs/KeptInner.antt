@@ -12,6 +12,7 @@ use Rattle.model.specs.Net.{Stop, stopping}
 use Rattle.model.specs.Runs.{replay, opening}
 use Rattle.model.specs.Unfolding.{basic}
 use Rattle.model.specs.Lent.{marking}
+use Rattle.held.specs.Held.{heldIn}
 use Rattle.model.specs.Across.{stuck, tooLong, unfoldingRefused}
 use Rattle.model.specs.Across as model
 use Rattle.table.specs.Decoded.{netOf}
@@ -109,10 +110,10 @@ step-at-refused κs a r x h c g = stepped-kept (stopping (recordNet (now (a .0))
 pub step-event-refused : (κs : _) (a : _) (r : _) (x : _) → step-event.Learnt κs a r x → (c : Cause) → r ≡ Stops c → now (x .1 .1 .1 .1 .0) ≡ now (a .1 .1 .1 .1 .0)
 step-event-refused κs a r x h c g = stepped-kept (stopping (netOf (now (a .0))) (marking (now (a .1 .1 .1 .1 .0))) (a .1 .1 .1 .0)) r c _ (now (a .1 .1 .1 .1 .0)) (now (x .1 .1 .1 .1 .0)) (h .0) (h .1) g
 
-pub play-refused : (κs : _) (a : _) (r : _) (x : _) → play.Learnt κs a r x → T (listed ofSteps r)
+pub play-refused : (κs : _) (a : _) (r : _) (x : _) → play.Learnt κs a r x → T (listed ofSteps (r .answer))
 play-refused κs a r x h =
     let run = now (a .1 .1 .1 .0) in
-    let played = replay (netOf (now (a .0))) 0 (begunAt (netOf (now (a .0))) (marking (now (a .1 .1 .1 .1 .0)))) run in
+    let played = replay (netOf (now (a .0))) 0 (begunAt (netOf (now (a .0))) (heldIn (a .1 .1 .1 .1 .0))) run in
     rw (h .told) (listed-or ofSteps (tooLong run) _ (long-listed ofSteps run tt) (listed-or ofSteps (stuck model.ofTable played) _ (stuck-listed ofSteps model.ofTable played tt tt tt) tt))
 
 pub write-end-refused : (κs : _) (a : _) (r : _) (x : _) → write-end.Learnt κs a r x → Refusing (16 ∷ []) r (now (a .1 .1 .0)) (now (x .1 .1 .0))

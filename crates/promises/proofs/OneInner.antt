@@ -1,16 +1,21 @@
 -- One answer only, for the public functions that the calls are made of: two answers of one that both meet its contract are equal, in
 -- the result and in the lent output, which stands here as the memory at exit.
-use mathlib.Core.Path.{_≡_, refl, sym, ap, ap₂, _∙_}
+use mathlib.Core.Path.{_≡_, refl, sym, ap, ap₂, _∙_, subst}
 use mathlib.Core.Bool.{Bool}
 use mathlib.Core.List.{List, [], _∷_}
-use Prim.Native.Nat.{ℕ, suc, _≤_, _<_}
+use Prim.Native.Nat.{ℕ, zero, suc, _+_, _*_, _/_, _%_, _^_, _≤_, _<_}
+use native.Mathlib.Nat.{pow-suc, div-one}
 use native.Mathlib.Omega.{arith}
 use native.Mathlib.Decide.{decLe}
-use lib.ListN.{length, getD, take}
+use lib.Dec.{eqb}
+use lib.ListN.{length, getD}
 use denote.Ref.{now, ptr}
 use Rattle.lists.specs.Lists.{sum}
-use Rattle.model.specs.Net.{Net}
+use Rattle.model.specs.Net.{Net, Marking}
+use Rattle.model.specs.Lent.{bytes}
 use Rattle.model.specs.Numbering.{size, width, eventCount}
+use Rattle.held.specs.Held.{bitOf, heldIn}
+use Rattle.held.proofs.Bits.{halved}
 use Rattle.refusal.specs.declared.Judged.{Judged}
 use Rattle.refusal.specs.Answer.{written}
 use Rattle.table.specs.Walk.{offsetOf}
@@ -45,6 +50,15 @@ use Rattle.records.proofs.marking_at.Reads as marking-at
 use Rattle.table.proofs.is_event.Reads as is-event
 use Rattle.table.proofs.offset.Reads as offset
 use Rattle.game.proofs.first_above.Reads as first-above
+use Rattle.held.proofs.holds.Reads as holds
+use Rattle.held.proofs.both.Reads as both
+use Rattle.held.proofs.either.Reads as either
+use Rattle.held.proofs.without.Reads as without
+use Rattle.held.proofs.collect.Reads as collect
+use Rattle.held.proofs.gather.Reads as gather
+use Rattle.held.proofs.spread.Reads as spread
+use Rattle.step.proofs.kept.Reads as kept
+use Rattle.step.proofs.move_at.Reads as move-at
 use Rattle.step.proofs.set_all.Reads as set-all
 use Rattle.step.proofs.test_at.Reads as test-at
 use Rattle.step.proofs.step_at.Reads as step-at
@@ -55,7 +69,7 @@ use Rattle.unfolded_step.proofs.answered.Reads as unfolded-answered
 use Rattle.game.proofs.judge_lent.Reads as judge-lent
 use Rattle.played.proofs.start.Reads as played-start
 use Rattle.played.proofs.step_event.Reads as step-event
-use Rattle.played.proofs.copy_front.Reads as copy-front
+use Rattle.played.proofs.start_held.Reads as start-held
 use Rattle.played.proofs.write_end.Reads as write-end
 use Rattle.apart.proofs.apart_at.Reads as apart-at
 use Rattle.tally.proofs.number.Reads as count-at
@@ -207,7 +221,67 @@ is-event-one κs a r q x y h g = h ∙ sym g
 pub offset-one : (κs : _) (a : _) (r q : _) (x y : _) → offset.Learnt κs a r x → offset.Learnt κs a q y → r ≡ q
 offset-one κs a r q x y h g = h ∙ sym g
 
+-- ---- a marking in words: two answers tell the same marking, so they are the same words
+
+-- two numbers of so many bits that have the same bits
+same-bits : (n x y : ℕ) → x < 2 ^ n → y < 2 ^ n → ((j : ℕ) → j < n → bitOf x j ≡ bitOf y j) → x ≡ y
+same-bits zero x y h k e = omega arith
+same-bits (suc n) x y h k e =
+    let half = same-bits n (x / 2) (y / 2) (low x h) (low y k) (λ j l.
+    ap (λ (z : ℕ). eqb (z % 2) 1) (sym (halved x j)) ∙ e (suc j) (omega arith) ∙ ap (λ (z : ℕ). eqb (z % 2) 1) (halved y j)) in
+    let last = digit (x % 2) (y % 2) (omega arith) (omega arith) (ap (λ (z : ℕ). eqb (z % 2) 1) (sym (div-one x)) ∙ e 0 (omega arith) ∙ ap (λ (z : ℕ). eqb (z % 2) 1) (div-one y)) in
+    omega (arith, half, last)
+  where
+    low : (z : ℕ) → z < 2 ^ suc n → z / 2 < 2 ^ n
+    low z l = let l : z < 2 ^ n * 2 = subst (λ (p : ℕ). z < p) (pow-suc 2 n) l in omega arith
+
+    digit : (p q : ℕ) → p < 2 → q < 2 → eqb p 1 ≡ eqb q 1 → p ≡ q
+    digit zero zero h k e = refl
+    digit zero (suc zero) h k e = absurd (let z : _≡_ {A = ℕ} 0 1 = cc in omega arith)
+    digit zero (suc (suc q)) h k e = absurd (omega arith)
+    digit (suc zero) zero h k e = absurd (let z : _≡_ {A = ℕ} 0 1 = cc in omega arith)
+    digit (suc zero) (suc zero) h k e = refl
+    digit (suc zero) (suc (suc q)) h k e = absurd (omega arith)
+    digit (suc (suc p)) q h k e = absurd (omega arith)
+
+pub same-words : (l k : List ℕ) → length l ≡ length k → ((i : ℕ) → getD l i 0 < 2 ^ 64) → ((i : ℕ) → getD k i 0 < 2 ^ 64) → heldIn l ≡ heldIn k → l ≡ k
+unfolding heldIn
+same-words l k long h g e = same-list l k long (λ i low. same-bits 64 (getD l i 0) (getD k i 0) (h i) (g i) (λ j p. at i j p))
+  where
+    at : (i j : ℕ) → j < 64 → bitOf (getD l i 0) j ≡ bitOf (getD k i 0) j
+    at i j p =
+        let word : (64 * i + j) / 64 ≡ i = omega arith in
+        let bit : (64 * i + j) % 64 ≡ j = omega arith in
+        rw (word, bit) at (ap (λ (m : Marking). m (64 * i + j)) e)
+
+pub holds-one : (κs : _) (a : _) (r q : _) (x y : _) → holds.Learnt κs a r x → holds.Learnt κs a q y → r ≡ q
+holds-one κs a r q x y h g = h ∙ sym g
+
+pub both-one : (κs : _) (a : _) (r q : _) (x y : _) → both.Learnt κs a r x → both.Learnt κs a q y → heldIn r ≡ heldIn q
+both-one κs a r q x y h g = h ∙ sym g
+
+pub either-one : (κs : _) (a : _) (r q : _) (x y : _) → either.Learnt κs a r x → either.Learnt κs a q y → heldIn r ≡ heldIn q
+either-one κs a r q x y h g = h ∙ sym g
+
+pub without-one : (κs : _) (a : _) (r q : _) (x y : _) → without.Learnt κs a r x → without.Learnt κs a q y → heldIn r ≡ heldIn q
+without-one κs a r q x y h g = h ∙ sym g
+
+pub collect-one : (κs : _) (a : _) (r q : _) (x y : _) → collect.Learnt κs a r x → collect.Learnt κs a q y → heldIn r ≡ heldIn q
+collect-one κs a r q x y h g = h ∙ sym g
+
+pub gather-one : (κs : _) (a : _) (r q : _) (x y : _) → gather.Learnt κs a r x → gather.Learnt κs a q y → heldIn r ≡ heldIn q
+gather-one κs a r q x y h g = h ∙ sym g
+
+pub spread-one : (κs : _) (a : _) (r q : _) (x y : _) → spread.Learnt κs a r x → spread.Learnt κs a q y → now (x .1 .1 .0) ≡ now (y .1 .1 .0)
+spread-one κs a r q x y h g = h ∙ sym g
+
 -- ---- one step of the game
+
+pub kept-one : (κs : _) (a : _) (r q : _) (x y : _) → kept.Learnt κs a r x → kept.Learnt κs a q y → heldIn r ≡ heldIn q
+kept-one κs a r q x y h g = h ∙ sym g
+
+pub move-at-one : (κs : _) (a : _) (r q : _) (x y : _) → move-at.Learnt κs a r x → move-at.Learnt κs a q y → (r .step ≡ q .step) × (heldIn (r .held) ≡ heldIn (q .held))
+move-at-one κs a r q x y h g = (h .0 ∙ sym (g .0), h .1 ∙ sym (g .1))
 
 pub first-above-one : (κs : _) (a : _) (r q : _) (x y : _) → first-above.Learnt κs a r x → first-above.Learnt κs a q y → r ≡ q
 first-above-one κs a r q x y h g = h ∙ sym g
@@ -244,13 +318,13 @@ played-start-one κs a r q x y h g = h ∙ sym g
 pub step-event-one : (κs : _) (a : _) (r q : _) (x y : _) → step-event.Learnt κs a r x → step-event.Learnt κs a q y → (r ≡ q) × (now (x .1 .1 .1 .1 .0) ≡ now (y .1 .1 .1 .1 .0))
 step-event-one κs a r q x y h g = (h .0 ∙ sym (g .0), h .1 ∙ sym (g .1))
 
-pub copy-front-one : (κs : _) (a : _) (r q : _) (x y : _) → copy-front.Learnt κs a r x → copy-front.Learnt κs a q y → now (x .1 .1 .0) ≡ now (y .1 .1 .0)
-copy-front-one κs a r q x y h g = h ∙ sym g
+pub start-held-one : (κs : _) (a : _) (r q : _) (x y : _) → start-held.Learnt κs a r x → start-held.Learnt κs a q y → heldIn r ≡ heldIn q
+start-held-one κs a r q x y h g = h ∙ sym g
 
 pub write-end-one : (κs : _) (a : _) (r q : _) (x y : _) → write-end.Learnt κs a r x → write-end.Learnt κs a q y → (r ≡ q) × (now (x .1 .1 .0) ≡ now (y .1 .1 .0))
 write-end-one κs a r q x y h g =
     let e : r ≡ q = h .0 ∙ sym (g .0) in
-    (e, h .1 ∙ ap (λ (z : Judged). written z (take (a .1 .0) (now (a .0))) (now (a .1 .1 .0))) e ∙ sym (g .1))
+    (e, h .1 ∙ ap (λ (z : Judged). written z (bytes (a .1 .0) (heldIn (a .0))) (now (a .1 .1 .0))) e ∙ sym (g .1))
 
 pub apart-at-one : (κs : _) (a : _) (r q : _) (x y : _) → apart-at.Learnt κs a r x → apart-at.Learnt κs a q y → r ≡ q
 apart-at-one κs a r q x y h g = h ∙ sym g
@@ -298,7 +372,7 @@ owner-one κs a r q x y h g = same-owner (now (a .0)) (a .1 .1 .1 .0) r q h g
 pub colours-before-one : (κs : _) (a : _) (r q : _) (x y : _) → colours-before.Learnt κs a r x → colours-before.Learnt κs a q y → r ≡ q
 colours-before-one κs a r q x y h g = h ∙ sym g
 
-pub write-copies-one : (κs : _) (a : _) (r q : _) (x y : _) → write-copies.Learnt κs a r x → write-copies.Learnt κs a q y → now (x .1 .1 .1 .1 .1 .1 .1 .0) ≡ now (y .1 .1 .1 .1 .1 .1 .1 .0)
+pub write-copies-one : (κs : _) (a : _) (r q : _) (x y : _) → write-copies.Learnt κs a r x → write-copies.Learnt κs a q y → now (x .1 .1 .1 .1 .1 .1 .1 .1 .0) ≡ now (y .1 .1 .1 .1 .1 .1 .1 .1 .0)
 write-copies-one κs a r q x y h g = h ∙ sym g
 
 pub decide-one : (κs : _) (a : _) (r q : _) (x y : _) → decide.Learnt κs a r x → decide.Learnt κs a q y → r ≡ q

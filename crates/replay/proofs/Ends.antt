@@ -1,10 +1,8 @@
 -- A replay once its run was played: what it answers, and what it leaves in its lent output.
-use Prim.Native.Nat.{ℕ, _≤_}
-use native.Mathlib.Omega.{arith}
-use mathlib.Core.Path.{_≡_, sym, ap, _∙_}
+use Prim.Native.Nat.{ℕ}
+use mathlib.Core.Path.{_≡_, sym, ap, ap₂, _∙_}
 use mathlib.Core.List.{List}
-use lib.ListN.{length, take}
-use lib.Seq.{getD-take, length-take-le}
+use lib.ListN.{length}
 use Rattle.model.specs.Net.{Net, Marking, begin}
 use Rattle.model.specs.Runs.{end, opening, replay}
 use Rattle.model.specs.Across.{ofTable, stuck, tooLong}
@@ -15,26 +13,18 @@ use Rattle.refusal.specs.Answer.{fitting, written}
 use Rattle.refusal.proofs.Chain.{written-refused}
 use Rattle.table.specs.Walk.{judgeOf}
 use Rattle.table.specs.Decoded.{netOf}
-use Rattle.model.specs.Lent.{bit, bytes, marking}
-use Rattle.step.specs.Lent.{Lent}
+use Rattle.model.specs.Lent.{bytes, marking}
+use Rattle.held.specs.Held.{heldIn}
 use Rattle.game.specs.Calls.{onMarking}
 use Rattle.played.specs.Begun.{begunAt}
 use Rattle.replay.specs.Calls.{playedOf, replayOf, replayFromOf}
 use Rattle.played.specs.Played.{Plays}
 use Rattle.table.proofs.Links.{links-refused, links-fine}
-use Rattle.model.proofs.Lent.{bytes-are}
-use Rattle.step.proofs.Bytes.{lent-at}
 use Rattle.game.proofs.Marked.{on-then}
-
--- ---- the end in bytes
-
-ending : (l : List ℕ) (c : ℕ) (m : Marking) → Lent l → c ≤ length l → marking l ≡ m → take c l ≡ bytes c m
-ending l c m h p e =
-    bytes-are (take c l) c m (length-take-le c l p) (λ i q. getD-take c l i 0 q ∙ lent-at l h i (omega arith) ∙ ap (λ (x : Marking). bit (x i)) e)
 
 -- ---- a run that was played, and its end with room for so many bytes
 
-module _ (n : Net) (m : Marking) (r : List ℕ) (answer : Judged) (l : List ℕ) (p : Plays n m r answer l) where
+module _ (n : Net) (m : Marking) (r : List ℕ) (answer : Judged) (held : List ℕ) (p : Plays n m r answer held) where
   tail-refused : (room : ℕ) (x : table.Refusal) → answer ≡ Refused x → answer ≡ playedOf n (begunAt n m) r room
   unfolding playedOf
   tail-refused room x e =
@@ -45,32 +35,29 @@ module _ (n : Net) (m : Marking) (r : List ℕ) (answer : Judged) (l : List ℕ)
     count-is : count ≡ n .conditions
     count-is = links-fine (tooLong r) (stuck ofTable (replay n 0 (begunAt n m) r)) (n .conditions) count (Fine 0) (sym (p .told) ∙ e) .0
 
-    pub tail-room : count ≤ length l
-    tail-room = omega (arith, count-is, p .room)
-
     tail-fine : (room : ℕ) → fitting count room ≡ playedOf n (begunAt n m) r room
     unfolding playedOf
     tail-fine room =
         ap (λ (c : ℕ). fitting c room) count-is
         ∙ links-fine (tooLong r) (stuck ofTable (replay n 0 (begunAt n m) r)) (n .conditions) count (fitting (n .conditions) room) (sym (p .told) ∙ e) .1
 
-    tail-left : take count l ≡ bytes (n .conditions) (end n m r)
-    tail-left = ap (λ (c : ℕ). take c l) count-is ∙ ending l (n .conditions) (end n m r) (p .lents) (p .room) (p .reached count e)
+    tail-left : bytes count (heldIn held) ≡ bytes (n .conditions) (end n m r)
+    tail-left = ap₂ bytes count-is (p .reached count e)
 
 -- ---- a call that goes on to such a run, and its lent output
 
-module _ (n : Net) (m : Marking) (r : List ℕ) (answer : Judged) (l : List ℕ) (p : Plays n m r answer l) (out : List ℕ) (call : Judged)
+module _ (n : Net) (m : Marking) (r : List ℕ) (answer : Judged) (held : List ℕ) (p : Plays n m r answer held) (out : List ℕ) (call : Judged)
     (is : call ≡ playedOf n (begunAt n m) r (length out)) where
   pub call-refused : (x : table.Refusal) → answer ≡ Refused x → (answer ≡ call) × (out ≡ written call (bytes (n .conditions) (end n m r)) out)
   call-refused x e =
-      let same = tail-refused n m r answer l p (length out) x e ∙ sym is in
+      let same = tail-refused n m r answer held p (length out) x e ∙ sym is in
       (same, written-refused call x (bytes (n .conditions) (end n m r)) out (sym same ∙ e))
 
   pub call-fine : (count : ℕ) → answer ≡ Fine count → (final : Judged) (after : List ℕ) → final ≡ fitting count (length out)
-      → after ≡ written final (take count l) out → (final ≡ call) × (after ≡ written call (bytes (n .conditions) (end n m r)) out)
+      → after ≡ written final (bytes count (heldIn held)) out → (final ≡ call) × (after ≡ written call (bytes (n .conditions) (end n m r)) out)
   call-fine count e final after f g =
-      let same = f ∙ tail-fine n m r answer l p count e (length out) ∙ sym is in
-      (same, g ∙ ap (λ (x : Judged). written x (take count l) out) same ∙ ap (λ (x : List ℕ). written call x out) (tail-left n m r answer l p count e))
+      let same = f ∙ tail-fine n m r answer held p count e (length out) ∙ sym is in
+      (same, g ∙ ap (λ (x : Judged). written x (bytes count (heldIn held)) out) same ∙ ap (λ (x : List ℕ). written call x out) (tail-left n m r answer held p count e))
 
 -- ---- the calls, once the table and the lent marking are judged
 

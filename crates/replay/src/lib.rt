@@ -15,13 +15,13 @@ pub fn replay<'a>(table: &'a [u8], run: &'a [u16], end: &mut [u8]) -> Judged
     };
     let mut offsets = [0usize; 256];
     played::fill(table, n, &mut offsets);
-    let mut state = [0u8; 256];
-    played::start(table, n, &mut state);
-    let played = played::play(table, n, &offsets, run, &mut state);
-    let Judged::Fine(count) = played else {
-        return played;
+    let played = played::play(table, n, &offsets, run, played::start_held(table, n));
+    let answer = played.answer;
+    let Judged::Fine(count) = answer else {
+        return answer;
     };
-    played::write_end(&state, count, end)
+    let held = played.held;
+    played::write_end(held, count, end)
 }
 
 // A run replayed from a lent marking; its end is written to a lent output.
@@ -35,11 +35,11 @@ pub fn replay_from<'a>(table: &'a [u8], marking: &'a [u8], run: &'a [u16], end: 
     };
     let mut offsets = [0usize; 256];
     played::fill(table, n, &mut offsets);
-    let mut state = [0u8; 256];
-    played::copy_front(marking, marking.len(), &mut state);
-    let played = played::play(table, n, &offsets, run, &mut state);
-    let Judged::Fine(count) = played else {
-        return played;
+    let played = played::play(table, n, &offsets, run, held::gather(marking));
+    let answer = played.answer;
+    let Judged::Fine(count) = answer else {
+        return answer;
     };
-    played::write_end(&state, count, end)
+    let held = played.held;
+    played::write_end(held, count, end)
 }

@@ -1,14 +1,14 @@
 -- The start of the unfolding: what the writer of copies leaves at the start, and how the call answers.
 use Prim.Native.Nat.{ℕ, _≤_, _<_}
 use native.Mathlib.Omega.{arith}
-use mathlib.Core.Path.{_≡_, sym, ap, ap₂, _∙_}
+use mathlib.Core.Path.{_≡_, refl, sym, ap, ap₂, _∙_}
 use mathlib.Core.Bool.{Bool}
-use mathlib.Core.List.{List, _++_}
-use lib.ListN.{length, getD, drop, replicate}
-use Rattle.model.specs.Net.{Marking, begin}
+use mathlib.Core.List.{List, [], _++_}
+use lib.ListN.{length, getD, drop}
+use Rattle.model.specs.Net.{Net, Marking, begin}
 use Rattle.model.specs.Lent.{bytes, marking}
 use Rattle.model.specs.Unfolding.{basic}
-use Rattle.model.proofs.Lent.{length-bytes, zeros-say, begun-marking}
+use Rattle.model.proofs.Lent.{length-bytes, zeros-say}
 use Rattle.model.proofs.Counts.{count-conditions}
 use Rattle.refusal.specs.declared.Refusal.{Refusal}
 use Rattle.refusal.specs.declared.Judged.{Judged}
@@ -18,31 +18,20 @@ use Rattle.refusal.proofs.Chain.{fitting-room, fitting-short}
 use Rattle.records.specs.Records.{conditions}
 use Rattle.table.specs.Walk.{judgeOf}
 use Rattle.table.specs.Decoded.{netOf}
-use Rattle.table.proofs.Sound.{tabled}
 use Rattle.table.proofs.Decoded.{events-are-all}
 use Rattle.layout.specs.Laid.{Laid}
 use Rattle.layout.specs.Unfolds.{unfoldingOf}
 use Rattle.layout.proofs.Limits.{count-read, unfolds-on, unfolds-judged}
 use Rattle.copies.specs.Copies.{copiesOf}
-use Rattle.copies.specs.Writing.{Roomy, Prepared}
 use Rattle.copies.proofs.Ends.{copies-begin}
 use Rattle.starting.specs.Calls.{unfoldedStartOf, unfoldedStartedOf}
 
--- ---- what holds is what held at the start
+-- ---- what holds is what held at the start, and no event has occurred
 
-module _ (s : List ℕ) (k : ℕ) (j : judgeOf s ≡ Fine k) (state : List ℕ) (e : state ≡ bytes 256 (begin (netOf s))) where
-  begun : marking state ≡ begin (netOf s)
-  begun =
-      let t = tabled s k j in
-      ap marking e ∙ begun-marking (netOf s) (t .sound) 256 (t .few-conditions)
-
-  pub start-prepared : (us bases : List ℕ) (room : ℕ) → Roomy s us bases room → Prepared s us bases state state room
-  start-prepared us bases room g = record { roomy = g; started = e; lent = e ∙ ap (λ (m : Marking). bytes 256 m) (sym begun) }
-
-  pub start-written : (seen : List ℕ) → seen ≡ replicate 256 0 → (out after : List ℕ) → after ≡ copiesOf (netOf s) (marking state) (marking seen) ++ drop (basic (netOf s) .conditions) out
-      → after ≡ bytes (basic (netOf s) .conditions) (begin (basic (netOf s))) ++ drop (basic (netOf s) .conditions) out
-  start-written seen q out after w =
-      w ∙ ap (λ (l : List ℕ). l ++ drop (basic (netOf s) .conditions) out) (ap₂ (λ (m : Marking) (f : ℕ → Bool). copiesOf (netOf s) m f) begun (zeros-say seen 256 q) ∙ copies-begin (netOf s))
+pub start-written : (n : Net) (m : Marking) → m ≡ begin n → (out after : List ℕ) → after ≡ copiesOf n m (marking []) ++ drop (basic n .conditions) out
+    → after ≡ bytes (basic n .conditions) (begin (basic n)) ++ drop (basic n .conditions) out
+start-written n m e out after w =
+    w ∙ ap (λ (l : List ℕ). l ++ drop (basic n .conditions) out) (ap₂ (λ (m : Marking) (f : ℕ → Bool). copiesOf n m f) e (zeros-say [] 0 refl) ∙ copies-begin n)
 
 -- ---- how the call answers
 

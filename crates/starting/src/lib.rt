@@ -19,16 +19,17 @@ fn write_start<'a>(
     events: usize,
     users: &'a [u32],
     bases: &'a [u32],
+    places: &mut [u32],
     out: &mut [u8],
 )
     requires { ⌜ Roomy (now table) (now users) (now bases) (length (now out)) ⌝ }
     requires { ⌜ judgeOf (now table) ≡ Fine events ⌝ }
+    requires { ⌜ length (now places) ≡ 256 ⌝ }
     ensures { λ _. ⌜ now (out .exit) ≡ bytes (basic (netOf (now (table .entry))) .conditions) (begin (basic (netOf (now (table .entry))))) ++ drop (basic (netOf (now (table .entry))) .conditions) (now (out .entry)) ⌝ }
 {
-    let mut state = [0u8; 256];
-    played::start(table, events, &mut state);
-    let seen = [0u8; 256];
-    copies::write_copies(table, events, users, bases, &state, &state, &seen, out);
+    let held = played::start_held(table, events);
+    let seen = &table[..0];
+    copies::write_copies(table, events, users, bases, held, held, seen, places, out);
 }
 
 // The start of the unfolding; fine: the number of unfolded conditions.
@@ -47,6 +48,6 @@ pub fn unfolded_start(table: &[u8], out: &mut [u8]) -> Judged
     if out.len() < count {
         return refusal::refused(16, count);
     }
-    write_start(table, events, &users, &bases, out);
+    write_start(table, events, &users, &bases, &mut markers, out);
     Judged::Fine(count)
 }

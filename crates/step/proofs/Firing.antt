@@ -1,73 +1,26 @@
--- A step on bytes is the model's: what its tests find, and what the bytes set in turn come to.
-use Prim.Native.Nat.{ℕ, _≤_, _<_}
-use native.Mathlib.Decide.{decLe}
-use native.Mathlib.Nat.{lt-of-not-le}
+-- A step on bytes is the model's: what the bytes set in turn come to.
+use Prim.Native.Nat.{ℕ, _<_}
 use native.Mathlib.Omega.{arith}
-use mathlib.Core.Path.{_≡_, refl, sym, ap, _∙_, fun-ext}
-use mathlib.Core.Bool.{Bool, true, false, not, _&&_, _||_, cond, and-true, and-false}
+use mathlib.Core.Path.{_≡_, refl, sym, ap, _∙_}
+use mathlib.Core.Bool.{Bool, true, false, not, _&&_, _||_, cond}
 use mathlib.Core.Option.{Option, none, some}
 use mathlib.Core.List.{List, [], _∷_}
 use lib.Dec.{eqb}
 use lib.ListN.{length, getD, set, replicate, length-set, length-replicate, getD-replicate}
 use lib.Seq.{getD-set-same, getD-set-other}
 use borrow.Author.Tests.{eqb-true, eqb-false}
-use Rattle.lists.specs.Lists.{mem, failing}
-use Rattle.model.specs.Net.{Marking, free, lacking, contact, fire, Stop, firstStop, stopping}
-use Rattle.refusal.specs.declared.TableCondition.{TableCondition}
+use Rattle.lists.specs.Lists.{mem}
+use Rattle.model.specs.Net.{fire, Stop, stopping}
 use Rattle.words.specs.Words.{words}
-use Rattle.records.specs.Records.{oldRule, flags, prePart, postPart}
+use Rattle.records.specs.Records.{flags, prePart, postPart}
 use Rattle.step.specs.declared.Step.{Step}
 use Rattle.step.specs.declared.Step.the-variants.{Goes, Stops}
 use Rattle.step.specs.declared.Cause.{Cause}
-use Rattle.step.specs.declared.Cause.the-variants.{Lacks, Meets}
-use Rattle.step.specs.declared.Failing.{Failing}
-use Rattle.step.specs.declared.Failing.the-variants.{Nothing, At}
 use Rattle.model.specs.Lent.{bit, bytes, marking}
 use Rattle.step.specs.Lent.{Lent}
-use Rattle.step.specs.Steps.{clearOf, failingOf, setOne, setAll, recordNet, stepOf, stepped}
-use Rattle.model.proofs.Lent.{bytes-are, bytes-at, bit-one, tidy-marking}
+use Rattle.step.specs.Steps.{setOne, setAll, listsNet, recordNet, stepOf, stepped}
+use Rattle.model.proofs.Lent.{bytes-are}
 use Rattle.step.proofs.Bytes.{lent-at}
-
--- ---- the test
-
--- what was found is the first that fails, or nothing
-found-lacks : (o p : Option ℕ) (b : TableCondition) → failingOf o ≡ At b → Stops (Lacks b) ≡ stepOf (firstStop true o p)
-found-lacks none p b e = absurd (let z : _≡_ {A = ℕ} 0 1 = cc in omega arith)
-found-lacks (some x) p b e = let z : record { 0 = x } ≡ b = cc in ap (λ (y : TableCondition). Stops (Lacks y)) (sym z)
-
-found-meets : (o p : Option ℕ) (b : TableCondition) → failingOf o ≡ Nothing → failingOf p ≡ At b → Stops (Meets b) ≡ stepOf (firstStop true o p)
-found-meets none none b d e = absurd (let z : _≡_ {A = ℕ} 0 1 = cc in omega arith)
-found-meets none (some x) b d e = let z : record { 0 = x } ≡ b = cc in ap (λ (y : TableCondition). Stops (Meets y)) (sym z)
-found-meets (some x) p b d e = absurd (let z : _≡_ {A = ℕ} 0 1 = cc in omega arith)
-
-found-nothing : (o p : Option ℕ) → failingOf o ≡ Nothing → failingOf p ≡ Nothing → Goes ≡ stepOf (firstStop true o p)
-found-nothing none none d e = refl
-found-nothing none (some x) d e = absurd (let z : _≡_ {A = ℕ} 0 1 = cc in omega arith)
-found-nothing (some x) p d e = absurd (let z : _≡_ {A = ℕ} 0 1 = cc in omega arith)
-
--- the three lists of bytes and the rule that the test of a record reads
-module _ (s l : List ℕ) (at : ℕ) (f pre post : List ℕ) (isF : f ≡ flags s) (isPre : pre ≡ prePart s at) (isPost : post ≡ postPart s at) (old : Bool)
-    (isOld : old ≡ oldRule s) where
-  abbrev low : Option ℕ
-  low = failing (marking l) (words pre)
-
-  abbrev high : Option ℕ
-  high = failing (clearOf f (marking l) (λ b. mem b (words pre) && not old)) (words post)
-
-  stops : firstStop true low high ≡ stopping (recordNet s at) (marking l) 0
-  unfolding stopping lacking contact free recordNet
-  stops = rw (isF, isPre, isPost, isOld)
-
-  module _ (x : Failing) (isX : x ≡ failingOf low) where
-    pub test-lacks : (b : TableCondition) → x ≡ At b → Stops (Lacks b) ≡ stepOf (stopping (recordNet s at) (marking l) 0)
-    test-lacks b e = found-lacks low high b (sym isX ∙ e) ∙ ap stepOf stops
-
-    module _ (none-lacks : x ≡ Nothing) (y : Failing) (isY : y ≡ failingOf high) where
-      pub test-meets : (b : TableCondition) → y ≡ At b → Stops (Meets b) ≡ stepOf (stopping (recordNet s at) (marking l) 0)
-      test-meets b e = found-meets low high b (sym isX ∙ none-lacks) (sym isY ∙ e) ∙ ap stepOf stops
-
-      pub test-goes : y ≡ Nothing → Goes ≡ stepOf (stopping (recordNet s at) (marking l) 0)
-      test-goes e = found-nothing low high (sym isX ∙ none-lacks) (sym isY ∙ e) ∙ ap stepOf stops
 
 -- ---- bytes set in turn, seen at one condition
 
@@ -128,49 +81,6 @@ put-all bs c =
     one true = refl
     one false = refl
 
--- for bytes that are no more than these, a mark tells what the list does
-marked-clear : (f l bs t : List ℕ) (c : ℕ) → length l ≤ c → t ≡ setAll [] 1 bs (replicate c 0)
-    → clearOf f (marking l) (marking t) ≡ clearOf f (marking l) (λ b. mem b bs)
-unfolding marking
-marked-clear f l bs t c h e = fun-ext (λ b. go b (decLe c b))
-  where
-    here : (b : ℕ) → b < c → eqb (getD t b 0) 1 ≡ mem b bs
-    here b p = ap (λ (x : List ℕ). eqb (getD x b 0) 1) (e ∙ put-all bs c) ∙ ap (λ (x : ℕ). eqb x 1) (bytes-at c (λ b. mem b bs) b p) ∙ bit-one (mem b bs)
-
-    go : (b : ℕ) → Dec (c ≤ b) → clearOf f (marking l) (marking t) b ≡ clearOf f (marking l) (λ b. mem b bs) b
-    go b (yes p) = let q : eqb (getD l b 0) 1 ≡ false = tidy-marking l b (omega arith) in rw q
-    go b (no p) = rw (here b (lt-of-not-le p))
-
--- where no condition makes contact though nothing is taken, none does
-pub none-meets : (f l xs : List ℕ) (taken : Marking) (x : Failing) → x ≡ failingOf (failing (clearOf f (marking l) (marking [])) xs) → x ≡ Nothing
-    → x ≡ failingOf (failing (clearOf f (marking l) taken) xs)
-unfolding marking
-none-meets f l xs taken x is e = e ∙ sym (ap failingOf (go xs (sym is ∙ e)))
-  where
-    step : (h k m : Bool) (b : ℕ) (before after : Option ℕ) → failingOf (cond (not h || (k || false)) before (some b)) ≡ Nothing → (failingOf before ≡ Nothing → after ≡ none)
-        → cond (not h || (k || m)) after (some b) ≡ none
-    step false k m b before after e ih = ih e
-    step true true m b before after e ih = ih e
-    step true false m b before after e ih = absurd (let z : _≡_ {A = ℕ} 0 1 = cc in omega arith)
-
-    go : (xs : List ℕ) → failingOf (failing (clearOf f (marking l) (marking [])) xs) ≡ Nothing → failing (clearOf f (marking l) taken) xs ≡ none
-    go [] e = refl
-    go (b ∷ xs) e = step (eqb (getD l b 0) 1) (eqb (getD f b 0) 1) (taken b) b _ _ e (go xs)
-
--- the first in contact by the rule: under the old one what is taken excuses nothing, else the preconditions do
-module _ (f l bs xs : List ℕ) (old : Bool) where
-  abbrev met : Marking → Failing
-  met taken = failingOf (failing (clearOf f (marking l) taken) xs)
-
-  pub meets-old : (x : Failing) → x ≡ met (marking []) → old ≡ true → x ≡ met (λ b. mem b bs && not old)
-  unfolding marking
-  meets-old x is e = is ∙ ap met (fun-ext (λ b. rw e (sym (and-false (mem b bs)))))
-
-  pub meets-taken : (x : Failing) (t : List ℕ) (c : ℕ) → x ≡ met (marking t) → length l ≤ c → t ≡ setAll [] 1 bs (replicate c 0) → old ≡ false
-      → x ≡ met (λ b. mem b bs && not old)
-  meets-taken x t c is h put e =
-      is ∙ ap (λ (g : ℕ → Bool). failingOf (failing g xs)) (marked-clear f l bs t c h put) ∙ ap met (fun-ext (λ b. rw e (sym (and-true (mem b bs)))))
-
 -- ---- the firing
 
 fired-at : (z a k m : Bool) → cond (z && true) 1 (cond (a && not k) 0 (bit m)) ≡ bit (z || m && (k || not a))
@@ -186,7 +96,7 @@ fired-at false false false false = refl
 
 fired : (s l : List ℕ) (at : ℕ) → Lent l
     → setAll [] 1 (words (postPart s at)) (setAll (flags s) 0 (words (prePart s at)) l) ≡ bytes (length l) (fire (recordNet s at) (marking l) 0)
-unfolding fire recordNet
+unfolding fire recordNet listsNet
 fired s l at lent =
     let taken = setAll (flags s) 0 (words (prePart s at)) l in
     bytes-are _ (length l) _ (length-all [] 1 (words (postPart s at)) taken ∙ length-all (flags s) 0 (words (prePart s at)) l)

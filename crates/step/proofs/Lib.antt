@@ -1,4 +1,5 @@
--- The laws, from bytes up to one step.
-pub mod Bytes
+-- The laws of steps, on words and on bytes.
 pub mod Lists
+pub mod Bytes
+pub mod Tests
 pub mod Firing

@@ -1,3 +1,4 @@
 -- The definitions, in reading order.
 pub mod Lent
+pub mod Tests
 pub mod Steps

@@ -1,11 +1,11 @@
 -- One step on a lent marking: which conditions stop it, what it answers and what it writes.
-use mathlib.Core.Bool.{Bool, not, _||_, cond}
+use mathlib.Core.Bool.{cond}
 use mathlib.Core.Option.{Option, none, some}
 use mathlib.Core.List.{List, [], _∷_}
 use Prim.Native.Nat.{ℕ}
 use lib.Dec.{eqb}
 use lib.ListN.{getD, set}
-use Rattle.model.specs.Net.{Net, Marking, Stop, unknown, lacks, meets}
+use Rattle.model.specs.Net.{Net, Stop, unknown, lacks, meets}
 use Rattle.refusal.specs.declared.By.{By}
 use Rattle.refusal.specs.declared.By.the-variants as by
 use Rattle.refusal.specs.declared.Judged.{Judged}
@@ -20,12 +20,7 @@ use Rattle.step.specs.declared.Step.the-variants.{Goes, Stops}
 use Rattle.step.specs.declared.Failing.{Failing}
 use Rattle.step.specs.declared.Failing.the-variants.{Nothing, At}
 
--- ---- the test of one condition, and the first that fails
-
--- A condition makes no contact if it does not hold, or is persistent, or is taken in a way that excuses, as the preconditions of the
--- event are but under the old rule (01, Playing the table; 02, No. 4).
-abbrev pub clearOf : List ℕ → Marking → Marking → ℕ → Bool
-clearOf f m taken b = not (m b) || (eqb (getD f b 0) 1 || taken b)
+-- ---- the first condition that fails
 
 -- The first condition that fails, as an answer.
 abbrev pub failingOf : Option ℕ → Failing
@@ -45,17 +40,22 @@ setAll kept v (b ∷ bs) l = setAll kept v bs (setOne kept v b l)
 
 -- ---- one step
 
--- The net that has one event alone, the one whose record stands at an offset (01, Table records).
-unfoldable pub recordNet : List ℕ → ℕ → Net
-recordNet s at = record {
+-- The net that has one event alone, with two lists of conditions that stand in bytes (01, Table records).
+unfoldable pub listsNet : List ℕ → List ℕ → List ℕ → Net
+listsNet s pre post = record {
   conditions = conditions s;
   persistent = λ b. eqb (getD (flags s) b 0) 1;
   old = λ b. oldRule s;
   events = 1;
-  preconditions = λ e. words (prePart s at);
-  postconditions = λ e. words (postPart s at);
+  preconditions = λ e. words pre;
+  postconditions = λ e. words post;
   start = [];
 }
+
+-- The net of the event whose record stands at an offset (01, Table records).
+unfoldable pub recordNet : List ℕ → ℕ → Net
+unfolding listsNet
+recordNet s at = listsNet s (prePart s at) (postPart s at)
 
 -- What stops a step, as an answer (01, Refusal numbers).
 abbrev pub causeOf : Stop → Cause

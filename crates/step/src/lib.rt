@@ -1,17 +1,21 @@
-// One step of the token game on a table's bytes: what stops the event whose record stands at an offset, and what its firing writes.
+// One step of the token game: what stops the event whose record stands at an offset of a table, and what its firing leaves, on words and
+// on lent bytes.
 use refusal::By;
 use refusal::Judged;
 use refusal::TableCondition;
 ghost use mathlib.Core.Path.{_≡_};
 ghost use mathlib.Core.Bool.{not, _&&_};
 ghost use Prim.Native.Nat.{_≤_};
-ghost use lib.ListN.{length};
-ghost use Rattle.lists.specs.Lists.{mem, failing};
+ghost use lib.ListN.{length, getD};
+ghost use lib.Bits.{bitOr};
 ghost use Rattle.words.specs.Words.{words};
+ghost use Rattle.records.specs.Records.{flags};
 ghost use Rattle.model.specs.Net.{stopping, fire};
 ghost use Rattle.model.specs.Lent.{bytes, marking};
+ghost use Rattle.held.specs.Held.{heldIn, tabled};
 ghost use Rattle.step.specs.Lent.{Lent};
-ghost use Rattle.step.specs.Steps.{clearOf, failingOf, setOne, setAll, recordNet, causeNumber, causeBy, causePlace, stoppedAt, stepOf, stepped, answeredOf};
+ghost use Rattle.step.specs.Tests.{lowest, toldOf, Listed, Recorded, Keeps, moved};
+ghost use Rattle.step.specs.Steps.{failingOf, setOne, setAll, listsNet, recordNet, causeNumber, causeBy, causePlace, stoppedAt, stepOf, stepped, answeredOf};
 
 // What stops a step: there is no such event, or the lowest condition that is lacking or in contact.
 pub enum Cause {
@@ -32,20 +36,10 @@ pub enum Failing {
     At(TableCondition),
 }
 
-// The first condition of a list that does not hold.
-fn first_lacking<'a>(state: &'a [u8], list: &'a [u8]) -> Failing
-    ensures { λ r. ⌜ r ≡ failingOf (failing (marking (now (state .entry))) (words (now (list .entry)))) ⌝ }
-{
-    let mut i: usize = 0;
-    while 1 < list.len() - i {
-        let b = words::word(list, i);
-        if words::byte(state, b as usize) == 1 {
-            i = i + 2;
-        } else {
-            return Failing::At(TableCondition(b));
-        }
-    }
-    Failing::Nothing
+// What one step on words answers, and the marking after it.
+pub struct Moved {
+    pub step: Step,
+    pub held: [u64; 4],
 }
 
 // One condition set to a byte, unless it is kept.
@@ -71,92 +65,127 @@ pub fn set_all<'a>(kept: &'a [u8], list: &'a [u8], value: u8, state: &mut [u8])
     }
 }
 
-// Whether a condition makes no contact: it does not hold, or it is kept, or it is among those that are taken.
-fn clear<'a>(flags: &'a [u8], state: &'a [u8], taken: &'a [u8], b: usize) -> bool
-    ensures { λ r. ⌜ r ≡ clearOf (now (flags .entry)) (marking (now (state .entry))) (marking (now (taken .entry))) b ⌝ }
+// The bits of all words together.
+fn together(held: [u64; 4]) -> u64
+    ensures { λ r. ⌜ r ≡ bitOr (bitOr (bitOr (getD held 0 0) (getD held 1 0)) (getD held 2 0)) (getD held 3 0) ⌝ }
 {
-    if words::byte(state, b) == 1 {
-        if words::byte(flags, b) == 1 {
-            return true;
-        }
-        return words::byte(taken, b) == 1;
-    }
-    true
+    held[0] | held[1] | held[2] | held[3]
 }
 
-// The first condition of a list that makes contact, where the taken conditions are marked.
-fn first_contact<'a>(flags: &'a [u8], state: &'a [u8], taken: &'a [u8], list: &'a [u8]) -> Failing
-    ensures { λ r. ⌜ r ≡ failingOf (failing (clearOf (now (flags .entry)) (marking (now (state .entry))) (marking (now (taken .entry)))) (words (now (list .entry)))) ⌝ }
+// The lowest condition of words.
+fn first(held: [u64; 4]) -> Failing
+    ensures { λ r. ⌜ r ≡ failingOf (lowest 256 (heldIn held)) ⌝ }
 {
-    let mut i: usize = 0;
-    while 1 < list.len() - i {
-        let b = words::word(list, i);
-        if clear(flags, state, taken, b as usize) {
-            i = i + 2;
-        } else {
-            return Failing::At(TableCondition(b));
+    if together(held) == 0 {
+        return Failing::Nothing;
+    }
+    let mut b: usize = 0;
+    while b < 256 {
+        if held::holds(held, b) {
+            return Failing::At(TableCondition(b as u16));
         }
+        b = b + 1;
     }
     Failing::Nothing
 }
 
-// The first postcondition that makes contact: where one would if nothing were taken, and the rule is not the old one, by which taking
-// excuses none, the preconditions are marked once, so that none is looked up in their list.
-fn contact<'a>(
-    flags: &'a [u8],
-    state: &'a [u8],
-    pre: &'a [u8],
-    post: &'a [u8],
-    old: bool,
-) -> Failing
-    requires { ⌜ length (now state) ≤ 256 ⌝ }
-    ensures { λ r. ⌜ r ≡ failingOf (failing (clearOf (now (flags .entry)) (marking (now (state .entry))) (λ b. mem b (words (now (pre .entry))) && not old)) (words (now (post .entry)))) ⌝ }
+// The postconditions that hold and, but under the old rule, are no preconditions.
+fn touched(pre: [u64; 4], post: [u64; 4], held: [u64; 4], old: bool) -> [u64; 4]
+    ensures { λ r. ⌜ heldIn r ≡ (λ b. (heldIn post b && heldIn held b) && not (heldIn pre b && not old)) ⌝ }
 {
-    let untaken = first_contact(flags, state, &pre[..0], post);
-    let Failing::At(_) = untaken else {
-        return untaken;
-    };
+    let both = held::both(post, held);
     if old {
-        return untaken;
+        return both;
     }
-    let mut taken = [0u8; 256];
-    set_all(&pre[..0], pre, 1, &mut taken);
-    first_contact(flags, state, &taken, post)
+    held::without(both, pre)
 }
 
-// What stops the event whose record stands at an offset, if anything does.
-pub fn test_at<'a>(table: &'a [u8], at: usize, state: &'a [u8]) -> Step
-    requires { ⌜ length (now state) ≤ 256 ⌝ }
-    ensures { λ r. ⌜ r ≡ stepOf (stopping (recordNet (now (table .entry)) at) (marking (now (state .entry))) 0) ⌝ }
+// What stops a step, by the first precondition that is lacking and the first postcondition in contact.
+fn told(lacking: Failing, meeting: Failing) -> Step
+    ensures { λ r. ⌜ r ≡ toldOf lacking meeting ⌝ }
 {
-    let flags = records::flags(table);
-    let pre = records::pre_at(table, at);
-    let post = records::post_at(table, at);
-    let lacking = first_lacking(state, pre);
     if let Failing::At(b) = lacking {
         return Step::Stops(Cause::Lacks(b));
     }
-    let meeting = contact(flags, state, pre, post, records::old_rule(table));
     if let Failing::At(b) = meeting {
         return Step::Stops(Cause::Meets(b));
     }
     Step::Goes
 }
 
-// One step of the game: the event whose record stands at an offset is tested, then fired.
+// The persistent conditions of a table, which no step takes.
+pub fn kept(table: &[u8]) -> [u64; 4]
+    ensures { λ r. ⌜ Keeps (now (table .entry)) r ⌝ }
+{
+    held::gather(records::flags(table))
+}
+
+// The lowest of conditions that is not persistent; which are is gathered only where there are some.
+fn ordinary(table: &[u8], held: [u64; 4]) -> Failing
+    ensures { λ r. ⌜ r ≡ failingOf (lowest 256 (λ b. heldIn held b && not (tabled (marking (flags (now (table .entry)))) b))) ⌝ }
+{
+    if together(held) == 0 {
+        return Failing::Nothing;
+    }
+    first(held::without(held, kept(table)))
+}
+
+// What stops an event with these two lists, if anything does.
+fn test<'a>(table: &'a [u8], pre: &'a [u8], post: &'a [u8], state: &'a [u8]) -> Step
+    requires { ⌜ Listed (now pre) (now post) × (length (now state) ≤ 256) ⌝ }
+    ensures { λ r. ⌜ r ≡ stepOf (stopping (listsNet (now (table .entry)) (now (pre .entry)) (now (post .entry))) (marking (now (state .entry))) 0) ⌝ }
+{
+    let held = held::gather(state);
+    let takes = held::collect(pre);
+    let puts = held::collect(post);
+    let touched = touched(takes, puts, held, records::old_rule(table));
+    told(first(held::without(takes, held)), ordinary(table, touched))
+}
+
+// What stops the event whose record stands at an offset, if anything does.
+pub fn test_at<'a>(table: &'a [u8], at: usize, state: &'a [u8]) -> Step
+    requires { ⌜ Recorded (now table) at × (length (now state) ≤ 256) ⌝ }
+    ensures { λ r. ⌜ r ≡ stepOf (stopping (recordNet (now (table .entry)) at) (marking (now (state .entry))) 0) ⌝ }
+{
+    let pre = records::pre_at(table, at);
+    test(table, pre, records::post_at(table, at), state)
+}
+
+// One step of the game on lent bytes: the event whose record stands at an offset is tested, then fired.
 pub fn step_at(table: &[u8], at: usize, state: &mut [u8]) -> Step
-    requires { ⌜ Lent (now state) × (length (now state) ≤ 256) ⌝ }
+    requires { ⌜ Recorded (now table) at × Lent (now state) × (length (now state) ≤ 256) ⌝ }
     ensures answer { λ r. ⌜ r ≡ stepOf (stopping (recordNet (now (table .entry)) at) (marking (now (state .entry))) 0) ⌝ }
     ensures after { λ _. ⌜ now (state .exit) ≡ stepped (stopping (recordNet (now (table .entry)) at) (marking (now (state .entry))) 0) (bytes (length (now (state .entry))) (fire (recordNet (now (table .entry)) at) (marking (now (state .entry))) 0)) (now (state .entry)) ⌝ }
 {
-    let answer = test_at(table, at, &state[..]);
+    let pre = records::pre_at(table, at);
+    let post = records::post_at(table, at);
+    let answer = test(table, pre, post, &state[..]);
     let Step::Goes = answer else {
         return answer;
     };
-    let flags = records::flags(table);
-    set_all(flags, records::pre_at(table, at), 0, state);
-    set_all(&table[..0], records::post_at(table, at), 1, state);
+    set_all(records::flags(table), pre, 0, state);
+    set_all(&table[..0], post, 1, state);
     answer
+}
+
+// One step of the game on words: the event whose record stands at an offset is tested, then fired.
+pub fn move_at(table: &[u8], at: usize, kept: [u64; 4], held: [u64; 4]) -> Moved
+    requires { ⌜ Recorded (now table) at × Keeps (now table) kept ⌝ }
+    ensures answer { λ r. ⌜ r .step ≡ stepOf (stopping (recordNet (now (table .entry)) at) (heldIn held) 0) ⌝ }
+    ensures after { λ r. ⌜ heldIn (r .held) ≡ moved (stopping (recordNet (now (table .entry)) at) (heldIn held) 0) (fire (recordNet (now (table .entry)) at) (heldIn held) 0) (heldIn held) ⌝ }
+{
+    let pre = held::collect(records::pre_at(table, at));
+    let post = held::collect(records::post_at(table, at));
+    let old = records::old_rule(table);
+    let touched = touched(pre, post, held, old);
+    let lacking = first(held::without(pre, held));
+    let step = told(lacking, first(held::without(touched, kept)));
+    let Step::Goes = step else {
+        return Moved { step, held };
+    };
+    let taken = held::without(pre, kept);
+    let fired = held::either(post, held::without(held, taken));
+    Moved { step, held: fired }
 }
 
 // The number of what stops a step.

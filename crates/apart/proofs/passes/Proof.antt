@@ -1,38 +1,31 @@
 -- `apart::passes` meets its contract.
-use Rattle.model.specs.Lent.{marking}
 use borrow.Author.Needs.{needs}
 use Rattle.apart.proofs.passes.Statement.{statement}
 use Rattle.apart.proofs.passes.Tie as tie
 
 returns : tie.Need-returns
-unfolding marking
 returns c =
-    simp (c .before .enum-told2 .given .1, ← c .before .before .before .before .byte .ensures, ← c .before .before .before .byte2 .ensures, c .if1 .taken)
+    simp (c .before .enum-told2 .given .1, ← c .before .before .before .before .holds .ensures, ← c .before .before .before .byte .ensures, c .if1 .taken)
 
 returns-2 : tie.Need-returns-2
-unfolding marking
 returns-2 c =
-    simp (c .before .before .before .enum-told3 .given .1, ← c .before .before .before .before .before .before .byte .ensures, ← c .before .before .before .before .before .byte2 .ensures, ← c .before .has .ensures, c .before .before .if2 .taken, c .if3 .taken)
+    simp (c .before .before .before .enum-told3 .given .1, ← c .before .before .before .before .before .before .holds .ensures, ← c .before .before .before .before .before .byte .ensures, ← c .before .has .ensures, c .before .before .if2 .taken, c .if3 .taken)
 
 returns-3 : tie.Need-returns-3
-unfolding marking
 returns-3 c =
-    simp (c .before .enum-told .given .1, c .unshared .ensures, c .before .before .before .byte2 .ensures)
+    simp (c .before .enum-told .given .1, c .unshared .ensures, c .before .before .before .byte .ensures)
 
 returns-4 : tie.Need-returns-4
-unfolding marking
 returns-4 c =
-    simp (c .before .enum-told2 .given .1, ← c .before .before .before .byte2 .ensures, c .if1 .left)
+    simp (c .before .enum-told2 .given .1, ← c .before .before .before .byte .ensures, c .if1 .left)
 
 returns-5 : tie.Need-returns-5
-unfolding marking
 returns-5 c =
-    simp (c .before .before .before .enum-told3 .given .1, ← c .before .before .before .before .before .byte2 .ensures, ← c .before .has .ensures, c .before .before .if2 .taken, c .if3 .left)
+    simp (c .before .before .before .enum-told3 .given .1, ← c .before .before .before .before .before .byte .ensures, ← c .before .has .ensures, c .before .before .if2 .taken, c .if3 .left)
 
 returns-6 : tie.Need-returns-6
-unfolding marking
 returns-6 c =
-    simp (c .before .enum-told3 .given .1, ← c .before .before .before .byte2 .ensures, c .if2 .left)
+    simp (c .before .enum-told3 .given .1, ← c .before .before .before .byte .ensures, c .if2 .left)
 
 pub passes-spec : {M : Type 1} → statement M
 passes-spec =

@@ -28,7 +28,7 @@ abbrev μ-loop : tie.MeasureT-loop
 
 loop-holds : tie.Need-loop-holds Inv-loop μ-loop
 loop-holds c =
-    (omega arith, c .offset .ensures, c .before .before .before .before .before .before .before .pre .1 .1 .1 .size, omega arith, c .before .before .before .before .before .before .before .pre .1 .1 .1, λ m before r. r)
+    (omega arith, c .offset .ensures, c .before .before .before .before .before .before .before .pre .1 .1 .size, omega arith, c .before .before .before .before .before .before .before .pre .1 .1, λ m before r. r)
 
 write-list-requires : tie.Need-write-list-requires Inv-loop μ-loop
 write-list-requires c κs =
@@ -54,11 +54,11 @@ loop-again : tie.Need-loop-again Inv-loop μ-loop
 loop-again c =
     let on = walk-next (c .before .before .before .before .before .before .before .before .before .before .before .before .before .before .before .before .before .before .before .before .before .args .table .now) (c .before .before .before .before .before .before .before .before .before .before .before .before .before .loop .e) (c .before .before .before .before .before .before .before .before .before .before .before .before .before .loop .at) (omega arith) (c .before .before .before .before .before .before .before .before .before .before .before .before .before .loop .inv .1) (c .word .result) (c .word .ensures) in
     let t = tally-next (c .before .before .before .before .before .before .before .before .before .before .before .before .before .before .before .before .before .before .before .before .before .args .table .now) true 1 (c .before .before .before .before .before .before .before .before .before .before .before .before .before .loop .e) (c .before .before .before .before .before .before .before .before .before .before .before .before .before .loop .places) (omega arith) (omega arith) (c .before .before .before .before .before .before .before .before .before .before .before .before .before .loop .inv .4) (c .before .before .before .before .before .before .before .before .before .before .before .before .before .loop .at) (c .before .before .before .before .before .before .before .before .before .before .before .list-at .result .now) (c .before .before .before .before .before .before .before .before .before .before .before .before .before .loop .inv .1) (c .before .before .before .before .before .before .before .before .before .before .before .list-at .ensures) in
-    (omega arith, on, rw (c .before .before .before .raise .ensures) (t .size), omega (arith, c .before .before .before .before .before .before .before .write-list .ensures .same, c .before .before .before .before .before .before .before .before .before .before .before .before .before .loop .inv .3), rw (c .before .before .before .raise .ensures) t, λ m before r. walk-event (c .before .before .before .before .before .before .before .before .before .before .before .before .before .before .before .before .before .before .before .before .before .args .table .now) (c .before .before .before .before .before .before .before .before .before .before .before .before .before .before .before .before .before .before .before .before .before .args .users .now) (c .before .before .before .before .before .before .before .before .before .before .before .before .before .before .before .before .before .before .before .before .before .args .bases .now) (length (c .before .before .before .before .before .before .before .before .before .before .before .before .before .before .before .before .before .before .before .before .before .args .out .now)) (c .before .before .before .before .before .before .before .before .before .before .before .before .before .before .before .before .before .before .before .before .before .pre .0) (c .before .before .before .before .before .before .before .before .before .before .before .before .before .loop .e) (omega arith) (c .before .before .before .before .before .before .before .before .before .before .before .before .before .loop .places) (c .before .before .before .before .before .before .before .before .before .before .before .before .before .loop .inv .4) (c .before .before .before .before .before .before .before .before .before .before .before .before .before .loop .at) (c .before .before .before .before .before .before .before .before .before .before .before .list-at .result .now) (c .before .before .before .before .before .before .before .before .before .before .before .before .before .loop .inv .1) (c .before .before .before .before .before .before .before .before .before .before .before .list-at .ensures) m (c .before .before .before .before .before .before .before .before .before .before .before .before .before .before .before .before .before .before .before .before .before .args .seen .now) (c .before .before .before .before .before .before .before .before .before .byte .result) (c .before .before .before .before .before .before .before .before .before .before .before .before .before .before .before .before .before .before .before .before .before .pre .1 .1 .0) (c .before .before .before .before .before .before .before .before .before .byte .ensures) before (c .before .before .before .before .before .before .before .before .before .before .before .before .before .loop .out) _ (c .before .before .before .before .before .before .before .before .before .before .before .before .before .loop .inv .5 m before r) (c .before .before .before .before .before .before .before .write-list .ensures))
+    (omega arith, on, rw (c .before .before .before .raise .ensures) (t .size), omega (arith, c .before .before .before .before .before .before .before .write-list .ensures .same, c .before .before .before .before .before .before .before .before .before .before .before .before .before .loop .inv .3), rw (c .before .before .before .raise .ensures) t, λ m before r. walk-event (c .before .before .before .before .before .before .before .before .before .before .before .before .before .before .before .before .before .before .before .before .before .args .table .now) (c .before .before .before .before .before .before .before .before .before .before .before .before .before .before .before .before .before .before .before .before .before .args .users .now) (c .before .before .before .before .before .before .before .before .before .before .before .before .before .before .before .before .before .before .before .before .before .args .bases .now) (length (c .before .before .before .before .before .before .before .before .before .before .before .before .before .before .before .before .before .before .before .before .before .args .out .now)) (c .before .before .before .before .before .before .before .before .before .before .before .before .before .before .before .before .before .before .before .before .before .pre .0) (c .before .before .before .before .before .before .before .before .before .before .before .before .before .loop .e) (omega arith) (c .before .before .before .before .before .before .before .before .before .before .before .before .before .loop .places) (c .before .before .before .before .before .before .before .before .before .before .before .before .before .loop .inv .4) (c .before .before .before .before .before .before .before .before .before .before .before .before .before .loop .at) (c .before .before .before .before .before .before .before .before .before .before .before .list-at .result .now) (c .before .before .before .before .before .before .before .before .before .before .before .before .before .loop .inv .1) (c .before .before .before .before .before .before .before .before .before .before .before .list-at .ensures) m (c .before .before .before .before .before .before .before .before .before .before .before .before .before .before .before .before .before .before .before .before .before .args .seen .now) (c .before .before .before .before .before .before .before .before .before .byte .result) (c .before .before .before .before .before .before .before .before .before .byte .ensures) before (c .before .before .before .before .before .before .before .before .before .before .before .before .before .loop .out) _ (c .before .before .before .before .before .before .before .before .before .before .before .before .before .loop .inv .5 m before r) (c .before .before .before .before .before .before .before .write-list .ensures))
 
 same-length : tie.Need-same-length Inv-loop μ-loop
 same-length c =
-    c .before .loop .inv .2 ∙ sym (c .before .before .before .before .before .before .before .before .before .pre .1 .1 .1 .size)
+    c .before .loop .inv .2 ∙ sym (c .before .before .before .before .before .before .before .before .before .pre .1 .1 .size)
 
 same-length-2 : tie.Need-same-length-2 Inv-loop μ-loop
 same-length-2 c =

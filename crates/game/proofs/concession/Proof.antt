@@ -12,7 +12,8 @@ returns c =
 
 test-at-requires : tie.Need-test-at-requires
 test-at-requires c κs =
-    ready-fine (c .before .before .before .before .before .before .args .table .now) (c .before .before .before .before .before .before .args .marking .now) (c .before .before .before .before .before .before .args .event .0) _ (sym (c .before .before .before .ready .ensures) ∙ c .before .asked .given .1) .few
+    let k = ready-fine (c .before .before .before .before .before .before .args .table .now) (c .before .before .before .before .before .before .args .marking .now) (c .before .before .before .before .before .before .args .event .0) _ (sym (c .before .before .before .ready .ensures) ∙ c .before .asked .given .1) in
+    (k .listed, k .few)
 
 returns-2 : tie.Need-returns-2
 returns-2 c =

@@ -1,5 +1,6 @@
 -- `game::fire` meets its contract.
 use mathlib.Core.Path.{_∙_, sym, ap}
+use lib.ListN.{length}
 use Rattle.refusal.proofs.Chain.{passed-up}
 use Rattle.table.specs.Decoded.{netOf}
 use Rattle.table.proofs.Decoded.{conditions-are-all}
@@ -20,17 +21,17 @@ returns c =
 
 step-at-requires : tie.Need-step-at-requires
 step-at-requires c κs =
-    let k = ready-fine (c .before .before .before .before .before .before .before .before .before .args .table .now) (c .before .before .before .before .before .before .before .before .before .args .marking .now) (c .before .before .before .before .before .before .before .before .before .args .event .0) _ (sym (c .before .before .before .before .before .ready .ensures) ∙ c .before .before .before .asked .given .1) in
-    (k .lents, k .few)
+    let k = ready-fine (c .before .before .before .before .before .before .before .before .args .table .now) (c .before .before .before .before .before .before .before .before .args .marking .now) (c .before .before .before .before .before .before .before .before .args .event .0) _ (sym (c .before .before .before .before .ready .ensures) ∙ c .before .before .asked .given .1) in
+    (k .listed, k .lents, k .few)
 
 returns-2 : tie.Need-returns-2
 returns-2 c =
-    let s = c .before .before .before .before .before .before .before .before .before .before .before .before .before .args .table .now in
-    let m = c .before .before .before .before .before .before .before .before .before .before .before .before .before .args .marking .now in
-    let e = c .before .before .before .before .before .before .before .before .before .before .before .before .before .args .event .0 in
-    let found = sym (c .before .before .before .before .before .before .before .before .before .ready .ensures) ∙ c .before .before .before .before .before .before .before .asked .given .1 in
+    let s = c .before .before .before .before .before .before .before .before .before .before .before .before .args .table .now in
+    let m = c .before .before .before .before .before .before .before .before .before .before .before .before .args .marking .now in
+    let e = c .before .before .before .before .before .before .before .before .before .before .before .before .args .event .0 in
+    let found = sym (c .before .before .before .before .before .before .before .before .ready .ensures) ∙ c .before .before .before .before .before .before .asked .given .1 in
     let k = ready-fine s m e _ found in (
-      c .answered .ensures ∙ firing-told s m e (c .before .before .before .before .before .conditions .result) _ _ found (c .before .before .before .step-at .ensures .0) ∙ ap (firingOf s m e) (c .before .before .before .before .before .conditions .ensures ∙ conditions-are-all s (k .events) (k .judged)),
+      c .answered .ensures ∙ firing-told s m e (length m) _ _ found (c .before .before .before .step-at .ensures .0) ∙ ap (firingOf s m e) (k .long ∙ conditions-are-all s (k .events) (k .judged)),
       c .before .before .before .step-at .ensures .1 ∙ fired-fine s m e _ found,
     )
 
@@ -43,8 +44,6 @@ fire-spec =
     (λ c. search needs)
     (λ c. search needs)
     returns
-    (λ c κs. search needs)
-    (λ c. search needs)
     step-at-requires
     (λ c κs. search needs)
     (λ c. search needs)

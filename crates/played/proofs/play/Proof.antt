@@ -1,48 +1,46 @@
 -- `played::play` meets its contract.
 use Prim.Native.Nat.{_-_}
-use native.Mathlib.Omega.{arith}
 use mathlib.Core.Path.{_∙_}
 use lib.ListN.{length}
 use Rattle.table.specs.Decoded.{netOf}
-use Rattle.table.proofs.Sound.{accepted-sound}
 use Rattle.table.proofs.Decoded.{conditions-are-all}
-use Rattle.model.specs.Lent.{marking}
+use Rattle.held.specs.Held.{heldIn}
 use Rattle.played.proofs.Playing.{Going, going-start, step-on, step-ends, too-long, comes-to-end}
 use borrow.Author.Needs.{needs}
 use Rattle.played.proofs.play.Statement.{statement}
 use Rattle.played.proofs.play.Tie as tie
 
 abbrev Inv-loop : tie.InvT-loop
-Inv-loop table n offsets run state₀ k₀ state k =
-    Going (netOf table) (marking state₀) run k (length state₀) state
+Inv-loop table n offsets run held₀ kept k₀ held k =
+    Going (netOf table) (heldIn held₀) run k held
 
 abbrev μ-loop : tie.MeasureT-loop
-μ-loop table n offsets run state₀ k₀ state k =
+μ-loop table n offsets run held₀ kept k₀ held k =
     length run - k
 
 returns : tie.Need-returns Inv-loop μ-loop
 returns c =
-    too-long _ _ _ _ (c .before .before .before .before .before .before .pre .lents) (omega (arith, c .before .before .before .before .before .before .pre .room .0, conditions-are-all _ _ (c .before .before .before .before .before .before .pre .judged))) (c .before .if1 .taken) _ (c .refused .ensures)
+    too-long _ _ _ _ (c .before .if1 .taken) _ (c .refused .ensures)
 
 loop-holds : tie.Need-loop-holds Inv-loop μ-loop
 loop-holds c =
-    going-start _ _ _ (c .before .before .before .before .before .pre .lents)
+    going-start _ _ _
 
-step-event-requires : tie.Need-step-event-requires Inv-loop μ-loop
-step-event-requires c κs =
-    record { judged = c .before .before .before .before .before .before .before .before .before .pre .judged; indexed = c .before .before .before .before .before .before .before .before .before .pre .indexed; lents = c .before .before .before .loop .inv .lents; room = (omega (arith, c .before .before .before .before .before .before .before .before .before .pre .room .0, c .before .before .before .loop .inv .long), omega (arith, c .before .before .before .before .before .before .before .before .before .pre .room .1, c .before .before .before .loop .inv .long)) }
+move-event-requires : tie.Need-move-event-requires Inv-loop μ-loop
+move-event-requires c κs =
+    (c .before .before .before .before .before .before .before .before .pre .0, c .before .before .before .before .before .before .before .before .pre .1, c .before .before .before .kept .ensures)
 
 returns-2 : tie.Need-returns-2 Inv-loop μ-loop
 returns-2 c =
-    step-ends _ _ _ _ _ _ (c .before .before .before .before .before .before .before .before .before .before .loop .inv) (c .before .before .before .before .before .before .before .before .before .loop-test .taken) _ (c .before .before .before .before .before .before .step-event .ensures .0) _ (c .before .before .before .before .before .before .step-event .ensures .1) (omega (arith, c .before .before .before .before .before .before .before .before .before .before .before .before .before .before .before .before .pre .room .0, conditions-are-all _ _ (c .before .before .before .before .before .before .before .before .before .before .before .before .before .before .before .before .pre .judged))) (c .before .before .before .before .before .before .before .before .before .before .before .if1 .left) _ (c .before .before .step .given .1) _ (c .stopped-at .ensures)
+    step-ends _ _ _ _ _ (c .before .before .before .before .before .before .before .loop .inv) (c .before .before .before .before .before .before .loop-test .taken) _ (c .before .before .before .before .move-event .ensures .0) (c .before .before .before .before .before .before .before .before .before .if1 .left) _ (c .before .before .step .given .1) _ (c .stopped-at .ensures)
 
 loop-again : tie.Need-loop-again Inv-loop μ-loop
 loop-again c =
-    step-on _ _ _ _ _ _ (c .before .before .before .before .before .before .before .before .loop .inv) (c .before .before .before .before .before .before .before .loop-test .taken) _ (c .before .before .before .before .step-event .ensures .0) _ (c .before .before .before .before .step-event .ensures .1) (accepted-sound _ _ (c .before .before .before .before .before .before .before .before .before .before .before .before .before .before .pre .judged)) (omega (arith, c .before .before .before .before .before .before .before .before .before .before .before .before .before .before .pre .room .0, conditions-are-all _ _ (c .before .before .before .before .before .before .before .before .before .before .before .before .before .before .pre .judged))) (c .enum-told .given .1)
+    step-on _ _ _ _ _ (c .before .before .before .before .before .before .loop .inv) (c .before .before .before .before .before .loop-test .taken) _ (c .before .before .before .move-event .ensures .0) _ (c .before .before .before .move-event .ensures .1) (c .before .enum-told .given .1)
 
 returns-3 : tie.Need-returns-3 Inv-loop μ-loop
 returns-3 c =
-    comes-to-end _ _ _ _ _ _ (c .before .before .loop .inv) (omega (arith, c .before .before .before .before .before .before .before .before .pre .room .0, conditions-are-all _ _ (c .before .before .before .before .before .before .before .before .pre .judged))) (c .before .loop-test .left) (c .before .before .before .if1 .left) _ (c .conditions .ensures ∙ conditions-are-all _ _ (c .before .before .before .before .before .before .before .before .pre .judged))
+    comes-to-end _ _ _ _ _ (c .before .before .loop .inv) (c .before .loop-test .left) (c .before .before .before .before .if1 .left) _ (c .conditions .ensures ∙ conditions-are-all _ _ (c .before .before .before .before .before .before .before .before .pre .0))
 
 pub play-spec : {M : Type 1} → statement M
 play-spec =
@@ -52,19 +50,18 @@ play-spec =
     μ-loop
     (λ c κs. search needs)
     returns
+    (λ c κs. search needs)
     loop-holds
     (λ c. search needs)
     (λ c. search needs)
-    step-event-requires
+    move-event-requires
     (λ c. search needs)
     (λ c κs. search needs)
-    (λ c. search needs)
     returns-2
     (λ c. search needs)
     (λ c. search needs)
     (λ c. search needs)
     loop-again
     (λ c κs. search needs)
-    (λ c. search needs)
     (λ c. search needs)
     returns-3)

@@ -2,6 +2,7 @@
 use native.Mathlib.Omega.{arith}
 use mathlib.Core.Path.{_∙_}
 use Rattle.game.proofs.Found.{number-unknown, number-told, number-left}
+use Rattle.played.proofs.Moving.{move-listed}
 use borrow.Author.Needs.{needs}
 use Rattle.played.proofs.step_event.Statement.{statement}
 use Rattle.played.proofs.step_event.Tie as tie
@@ -20,7 +21,9 @@ shared-slice-read-step-at c =
 
 step-at-requires : tie.Need-step-at-requires
 step-at-requires c κs =
-    (c .before .before .before .before .before .before .pre .lents, c .before .before .before .before .before .before .pre .room .1)
+    let given = c .before .before .before .before .before .before .pre in
+    let below = c .before .before .if1 .left in
+    (move-listed _ _ (given .judged) _ below _ (given .indexed .each _ below), given .lents, given .room .1)
 
 returns-2 : tie.Need-returns-2
 returns-2 c =

@@ -1,10 +1,15 @@
 -- `played::write_end` meets its contract.
-use mathlib.Core.Path.{_∙_, sym}
+use mathlib.Core.Path.{_∙_, sym, ap}
+use mathlib.Core.List.{_++_}
+use Prim.Native.Nat.{ℕ}
+use lib.ListN.{drop}
+use Rattle.model.specs.Lent.{bytes}
+use Rattle.model.proofs.Lent.{length-bytes}
 use Rattle.refusal.proofs.Chain.{fitting-room, fitting-short}
+use Rattle.held.specs.Held.{heldIn}
 use borrow.Author.Needs.{needs}
 use Rattle.played.proofs.write_end.Statement.{statement}
 use Rattle.played.proofs.write_end.Tie as tie
-use Rattle.played.proofs.Copying.{front-written}
 
 returns : tie.Need-returns
 returns c =
@@ -12,9 +17,9 @@ returns c =
 
 returns-2 : tie.Need-returns-2
 returns-2 c =
-    let before = c .before .before .before .before .before .before .before in (
+    let given = c .before .before .before .before .before .before .args in (
       sym (fitting-room _ _ (c .before .before .before .before .if1 .left)),
-      front-written (before .args .count) (before .args .state .now) (before .args .end .now) _ (before .pre) (c .before .before .copy-front .ensures),
+      c .before .before .spread .ensures ∙ ap (λ (k : ℕ). bytes (given .count) (heldIn (given .held)) ++ drop k (given .end .now)) (sym (length-bytes (given .count) (heldIn (given .held)))),
     )
 
 pub write-end-spec : {M : Type 1} → statement M

@@ -1,11 +1,11 @@
 -- `replay::replay` meets its contract.
 use native.Mathlib.Omega.{arith}
-use mathlib.Core.Path.{_∙_, sym, refl}
+use mathlib.Core.Path.{_∙_, sym}
 use Rattle.refusal.proofs.Chain.{passed-up}
 use Rattle.table.proofs.Walk.{accepted}
 use Rattle.replay.specs.Calls.{replayOf, endOf}
-use Rattle.replay.proofs.Ends.{call-refused, call-fine, tail-room, replay-judged}
-use Rattle.played.proofs.Begun.{begun-lent, begun-room, begun-plays}
+use Rattle.replay.proofs.Ends.{call-refused, call-fine, replay-judged}
+use Rattle.played.proofs.Begun.{begun-plays}
 use borrow.Author.Needs.{needs}
 use Rattle.replay.proofs.replay.Statement.{statement}
 use Rattle.replay.proofs.replay.Tie as tie
@@ -22,31 +22,25 @@ fill-requires c κs =
     let few = accepted _ _ j .few in
     (j, omega arith)
 
-start-requires : tie.Need-start-requires
-start-requires c κs =
-    (sym (c .before .before .before .before .before .before .before .judge .ensures) ∙ c .before .before .before .before .before .judged .given .1, refl)
+start-held-requires : tie.Need-start-held-requires
+start-held-requires c κs =
+    sym (c .before .before .before .before .before .before .before .judge .ensures) ∙ c .before .before .before .before .before .judged .given .1
 
 play-requires : tie.Need-play-requires
 play-requires c κs =
-    let j = sym (c .before .before .before .before .before .before .before .before .before .before .before .judge .ensures) ∙ c .before .before .before .before .before .before .before .before .before .judged .given .1 in
-    record { judged = j; indexed = c .before .before .before .before .before .before .fill .ensures; lents = begun-lent _ _ j _ (c .before .before .before .start .ensures); room = begun-room _ _ j _ (c .before .before .before .start .ensures) }
+    (sym (c .before .before .before .before .before .before .before .before .judge .ensures) ∙ c .before .before .before .before .before .before .judged .given .1, c .before .before .before .fill .ensures)
 
 returns-2 : tie.Need-returns-2
 unfolding endOf
 returns-2 c =
-    let j = sym (c .before .before .before .before .before .before .before .before .before .before .before .before .before .before .before .judge .ensures) ∙ c .before .before .before .before .before .before .before .before .before .before .before .before .before .judged .given .1 in
-    call-refused _ _ _ _ _ (begun-plays _ _ j _ (c .before .before .before .before .before .before .before .start .ensures) _ _ _ (c .before .before .before .play .ensures)) _ _ (replay-judged _ _ _ _ j) _ (c .enum-told2 .given .1)
-
-write-end-requires : tie.Need-write-end-requires
-write-end-requires c κs =
-    let j = sym (c .before .before .before .before .before .before .before .before .before .before .before .before .before .before .before .before .before .before .judge .ensures) ∙ c .before .before .before .before .before .before .before .before .before .before .before .before .before .before .before .before .judged .given .1 in
-    tail-room _ _ _ _ _ (c .before .before .before .before .before .before .play .ensures) _ (c .before .before .before .played .given .1)
+    let j = sym (c .before .before .before .before .before .before .before .before .before .before .before .judge .ensures) ∙ c .before .before .before .before .before .before .before .before .before .judged .given .1 in
+    call-refused _ _ _ _ _ (begun-plays _ _ _ (c .before .before .before .start-held .ensures) _ _ _ (c .before .before .play .ensures)) _ _ (replay-judged _ _ _ _ j) _ (c .enum-told2 .given .1)
 
 returns-3 : tie.Need-returns-3
 unfolding endOf
 returns-3 c =
-    let j = sym (c .before .before .before .before .before .before .before .before .before .before .before .before .before .before .before .before .before .before .before .before .before .judge .ensures) ∙ c .before .before .before .before .before .before .before .before .before .before .before .before .before .before .before .before .before .before .before .judged .given .1 in
-    call-fine _ _ _ _ _ (begun-plays _ _ j _ (c .before .before .before .before .before .before .before .before .before .before .before .before .before .start .ensures) _ _ _ (c .before .before .before .before .before .before .before .before .before .play .ensures)) _ _ (replay-judged _ _ _ _ j) _ (c .before .before .before .before .before .before .played .given .1) _ _ (c .before .before .write-end .ensures .0) (c .before .before .write-end .ensures .1)
+    let j = sym (c .before .before .before .before .before .before .before .before .before .before .before .before .before .before .before .before .before .judge .ensures) ∙ c .before .before .before .before .before .before .before .before .before .before .before .before .before .before .before .judged .given .1 in
+    call-fine _ _ _ _ _ (begun-plays _ _ _ (c .before .before .before .before .before .before .before .before .before .start-held .ensures) _ _ _ (c .before .before .before .before .before .before .before .before .play .ensures)) _ _ (replay-judged _ _ _ _ j) _ (c .before .before .before .before .before .before .answer .given .1) _ _ (c .before .before .write-end .ensures .0) (c .before .before .write-end .ensures .1)
 
 pub replay-spec : {M : Type 1} → statement M
 replay-spec =
@@ -59,14 +53,11 @@ replay-spec =
     (λ c. search needs)
     fill-requires
     (λ c. search needs)
-    start-requires
-    (λ c. search needs)
-    (λ c. search needs)
+    start-held-requires
     play-requires
     (λ c. search needs)
     (λ c. search needs)
     returns-2
-    (λ c. search needs)
-    write-end-requires
+    (λ c κs. search needs)
     (λ c. search needs)
     returns-3)

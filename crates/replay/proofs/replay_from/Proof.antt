@@ -4,8 +4,9 @@ use mathlib.Core.Path.{_∙_, sym}
 use Rattle.refusal.proofs.Chain.{written-refused}
 use Rattle.table.proofs.Walk.{accepted}
 use Rattle.replay.specs.Calls.{endFromOf}
-use Rattle.replay.proofs.Starting.{lent-judged, lent-few, lent-lent, lent-room, lent-plays}
-use Rattle.replay.proofs.Ends.{call-refused, call-fine, tail-room, replay-from-judged, replay-from-refused}
+use Rattle.replay.proofs.Starting.{lent-judged, lent-gathered}
+use Rattle.replay.proofs.Ends.{call-refused, call-fine, replay-from-judged, replay-from-refused}
+use Rattle.played.proofs.Begun.{begun-plays}
 use borrow.Author.Needs.{needs}
 use Rattle.replay.proofs.replay_from.Statement.{statement}
 use Rattle.replay.proofs.replay_from.Tie as tie
@@ -22,31 +23,21 @@ fill-requires c κs =
     let few = accepted _ _ j .few in
     (j, omega arith)
 
-copy-front-requires : tie.Need-copy-front-requires
-copy-front-requires c κs =
-    let few = lent-few _ _ _ (sym (c .before .before .before .before .before .before .before .judge-lent .ensures) ∙ c .before .before .before .before .before .judged .given .1) in
-    (omega arith, omega arith)
-
 play-requires : tie.Need-play-requires
 play-requires c κs =
-    let j = sym (c .before .before .before .before .before .before .before .before .before .before .before .judge-lent .ensures) ∙ c .before .before .before .before .before .before .before .before .before .judged .given .1 in
-    record { judged = lent-judged _ _ _ j; indexed = c .before .before .before .before .before .before .fill .ensures; lents = lent-lent _ _ _ j _ (c .before .before .before .copy-front .ensures); room = lent-room _ _ _ j _ (c .before .before .before .copy-front .ensures) }
+    (lent-judged _ _ _ (sym (c .before .before .before .before .before .before .before .before .judge-lent .ensures) ∙ c .before .before .before .before .before .before .judged .given .1), c .before .before .before .fill .ensures)
 
 returns-2 : tie.Need-returns-2
 unfolding endFromOf
 returns-2 c =
-    let j = sym (c .before .before .before .before .before .before .before .before .before .before .before .before .before .before .before .judge-lent .ensures) ∙ c .before .before .before .before .before .before .before .before .before .before .before .before .before .judged .given .1 in
-    call-refused _ _ _ _ _ (lent-plays _ _ _ j _ (c .before .before .before .before .before .before .before .copy-front .ensures) _ _ _ (c .before .before .before .play .ensures)) _ _ (replay-from-judged _ _ _ _ _ j) _ (c .enum-told2 .given .1)
-
-write-end-requires : tie.Need-write-end-requires
-write-end-requires c κs =
-    tail-room _ _ _ _ _ (c .before .before .before .before .before .before .play .ensures) _ (c .before .before .before .played .given .1)
+    let j = sym (c .before .before .before .before .before .before .before .before .before .before .before .judge-lent .ensures) ∙ c .before .before .before .before .before .before .before .before .before .judged .given .1 in
+    call-refused _ _ _ _ _ (begun-plays _ _ _ (lent-gathered _ _ _ j _ (c .before .before .before .gather .ensures)) _ _ _ (c .before .before .play .ensures)) _ _ (replay-from-judged _ _ _ _ _ j) _ (c .enum-told2 .given .1)
 
 returns-3 : tie.Need-returns-3
 unfolding endFromOf
 returns-3 c =
-    let j = sym (c .before .before .before .before .before .before .before .before .before .before .before .before .before .before .before .before .before .before .before .before .before .judge-lent .ensures) ∙ c .before .before .before .before .before .before .before .before .before .before .before .before .before .before .before .before .before .before .before .judged .given .1 in
-    call-fine _ _ _ _ _ (lent-plays _ _ _ j _ (c .before .before .before .before .before .before .before .before .before .before .before .before .before .copy-front .ensures) _ _ _ (c .before .before .before .before .before .before .before .before .before .play .ensures)) _ _ (replay-from-judged _ _ _ _ _ j) _ (c .before .before .before .before .before .before .played .given .1) _ _ (c .before .before .write-end .ensures .0) (c .before .before .write-end .ensures .1)
+    let j = sym (c .before .before .before .before .before .before .before .before .before .before .before .before .before .before .before .before .before .judge-lent .ensures) ∙ c .before .before .before .before .before .before .before .before .before .before .before .before .before .before .before .judged .given .1 in
+    call-fine _ _ _ _ _ (begun-plays _ _ _ (lent-gathered _ _ _ j _ (c .before .before .before .before .before .before .before .before .before .gather .ensures)) _ _ _ (c .before .before .before .before .before .before .before .before .play .ensures)) _ _ (replay-from-judged _ _ _ _ _ j) _ (c .before .before .before .before .before .before .answer .given .1) _ _ (c .before .before .write-end .ensures .0) (c .before .before .write-end .ensures .1)
 
 pub replay-from-spec : {M : Type 1} → statement M
 replay-from-spec =
@@ -59,14 +50,11 @@ replay-from-spec =
     (λ c. search needs)
     fill-requires
     (λ c. search needs)
-    copy-front-requires
-    (λ c. search needs)
-    (λ c. search needs)
+    (λ c κs. search needs)
     play-requires
     (λ c. search needs)
     (λ c. search needs)
     returns-2
-    (λ c. search needs)
-    write-end-requires
+    (λ c κs. search needs)
     (λ c. search needs)
     returns-3)

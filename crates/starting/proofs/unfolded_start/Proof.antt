@@ -26,16 +26,16 @@ returns-2 c =
 
 write-start-requires : tie.Need-write-start-requires
 write-start-requires c κs =
-    let j = laid-judged (c .before .before .before .before .before .before .before .before .before .before .before .before .before .before .before .before .before .before .before .args .table .now) (c .before .before .before .before .before .before .before .before .before .before .before .before .before .lay-out .ensures .answer) (c .before .before .before .before .before .before .before .before .laid .given .1) in
-    let l = c .before .before .before .before .before .before .before .before .before .before .before .before .before .lay-out .ensures .laid _ (c .before .before .before .before .before .before .before .before .laid .given .1) in
-    let count : c .before .before .before .before .number .result ≡ basic (netOf (c .before .before .before .before .before .before .before .before .before .before .before .before .before .before .before .before .before .before .before .args .table .now)) .conditions = c .before .before .before .before .number .ensures ∙ count-is (c .before .before .before .before .before .before .before .before .before .before .before .before .before .before .before .before .before .before .before .args .table .now) _ _ _ _ j l (c .before .before .before .before .before .conditions .result) (c .before .before .before .before .before .conditions .ensures) in
-    (record { markers = _; laid = l; fits = omega (arith, count, c .before .before .before .if1 .left) }, j)
+    let j = laid-judged (c .before .before .before .before .before .before .before .before .before .before .before .before .before .before .before .before .before .before .before .before .args .table .now) (c .before .before .before .before .before .before .before .before .before .before .before .before .before .before .lay-out .ensures .answer) (c .before .before .before .before .before .before .before .before .before .laid .given .1) in
+    let l = c .before .before .before .before .before .before .before .before .before .before .before .before .before .before .lay-out .ensures .laid _ (c .before .before .before .before .before .before .before .before .before .laid .given .1) in
+    let count : c .before .before .before .before .before .number .result ≡ basic (netOf (c .before .before .before .before .before .before .before .before .before .before .before .before .before .before .before .before .before .before .before .before .args .table .now)) .conditions = c .before .before .before .before .before .number .ensures ∙ count-is (c .before .before .before .before .before .before .before .before .before .before .before .before .before .before .before .before .before .before .before .before .args .table .now) _ _ _ _ j l (c .before .before .before .before .before .before .conditions .result) (c .before .before .before .before .before .before .conditions .ensures) in
+    (record { markers = _; laid = l; fits = omega (arith, count, c .before .before .before .before .if1 .left) }, (j, l .counted .marked .marks .size))
 
 returns-3 : tie.Need-returns-3
 returns-3 c =
-    let count = c .before .before .before .before .before .before .before .number .ensures ∙ count-is (c .before .before .before .before .before .before .before .before .before .before .before .before .before .before .before .before .before .before .before .before .before .before .args .table .now) _ _ _ _ (laid-judged (c .before .before .before .before .before .before .before .before .before .before .before .before .before .before .before .before .before .before .before .before .before .before .args .table .now) (c .before .before .before .before .before .before .before .before .before .before .before .before .before .before .before .before .lay-out .ensures .answer) (c .before .before .before .before .before .before .before .before .before .before .before .laid .given .1)) (c .before .before .before .before .before .before .before .before .before .before .before .before .before .before .before .before .lay-out .ensures .laid _ (c .before .before .before .before .before .before .before .before .before .before .before .laid .given .1)) (c .before .before .before .before .before .before .before .before .conditions .result) (c .before .before .before .before .before .before .before .before .conditions .ensures) in
-    let e = start-room (c .before .before .before .before .before .before .before .before .before .before .before .before .before .before .before .before .before .before .before .before .before .before .args .table .now) (c .before .before .before .before .before .before .before .before .before .before .before .before .before .before .before .before .before .before .before .before .before .before .args .out .now) (λ own. unfolds-on (c .before .before .before .before .before .before .before .before .before .before .before .before .before .before .before .before .before .before .before .before .before .before .args .table .now) own (netOf (c .before .before .before .before .before .before .before .before .before .before .before .before .before .before .before .before .before .before .before .before .before .before .args .table .now) .events) (c .before .before .before .before .before .before .before .before .before .before .before .before .before .before .before .before .lay-out .ensures .answer) (c .before .before .before .before .before .before .before .before .before .before .before .laid .given .1) .0) (c .before .before .before .before .before .before .before .number .result) count (c .before .before .before .before .before .before .if1 .left) in
-    (e, start-fine (c .before .before .before .before .before .before .before .before .before .before .before .before .before .before .before .before .before .before .before .before .before .before .args .table .now) (c .before .before .before .before .before .before .before .before .before .before .before .before .before .before .before .before .before .before .before .before .before .before .args .out .now) e refl _ (c .before .before .write-start .ensures))
+    let count = c .before .before .before .before .before .before .before .before .before .number .ensures ∙ count-is (c .before .before .before .before .before .before .before .before .before .before .before .before .before .before .before .before .before .before .before .before .before .before .before .before .args .table .now) _ _ _ _ (laid-judged (c .before .before .before .before .before .before .before .before .before .before .before .before .before .before .before .before .before .before .before .before .before .before .before .before .args .table .now) (c .before .before .before .before .before .before .before .before .before .before .before .before .before .before .before .before .before .before .lay-out .ensures .answer) (c .before .before .before .before .before .before .before .before .before .before .before .before .before .laid .given .1)) (c .before .before .before .before .before .before .before .before .before .before .before .before .before .before .before .before .before .before .lay-out .ensures .laid _ (c .before .before .before .before .before .before .before .before .before .before .before .before .before .laid .given .1)) (c .before .before .before .before .before .before .before .before .before .before .conditions .result) (c .before .before .before .before .before .before .before .before .before .before .conditions .ensures) in
+    let e = start-room (c .before .before .before .before .before .before .before .before .before .before .before .before .before .before .before .before .before .before .before .before .before .before .before .before .args .table .now) (c .before .before .before .before .before .before .before .before .before .before .before .before .before .before .before .before .before .before .before .before .before .before .before .before .args .out .now) (λ own. unfolds-on (c .before .before .before .before .before .before .before .before .before .before .before .before .before .before .before .before .before .before .before .before .before .before .before .before .args .table .now) own (netOf (c .before .before .before .before .before .before .before .before .before .before .before .before .before .before .before .before .before .before .before .before .before .before .before .before .args .table .now) .events) (c .before .before .before .before .before .before .before .before .before .before .before .before .before .before .before .before .before .before .lay-out .ensures .answer) (c .before .before .before .before .before .before .before .before .before .before .before .before .before .laid .given .1) .0) (c .before .before .before .before .before .before .before .before .before .number .result) count (c .before .before .before .before .before .before .before .before .if1 .left) in
+    (e, start-fine (c .before .before .before .before .before .before .before .before .before .before .before .before .before .before .before .before .before .before .before .before .before .before .before .before .args .table .now) (c .before .before .before .before .before .before .before .before .before .before .before .before .before .before .before .before .before .before .before .before .before .before .before .before .args .out .now) e refl _ (c .before .before .before .write-start .ensures))
 
 pub unfolded-start-spec : {M : Type 1} → statement M
 unfolded-start-spec =
@@ -55,6 +55,7 @@ unfolded-start-spec =
     (λ c. search needs)
     (λ c κs. search needs)
     returns-2
+    (λ c. search needs)
     (λ c. search needs)
     (λ c. search needs)
     write-start-requires
