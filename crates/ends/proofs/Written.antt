@@ -8,14 +8,14 @@ use lib.ListN.{length, drop}
 use Rattle.model.specs.Net.{Net, Marking, begin}
 use Rattle.model.specs.Lent.{bytes, marking}
 use Rattle.model.specs.Unfolding.{basic}
-use Rattle.model.proofs.Lent.{length-bytes, tidy-marking}
+use Rattle.model.proofs.Lent.{length-bytes}
 use Rattle.refusal.specs.declared.Judged.{Judged}
 use Rattle.refusal.specs.declared.Judged.the-variants.{Fine}
 use Rattle.refusal.specs.Answer.{refusedAt, fitting, written}
 use Rattle.refusal.proofs.Chain.{fitting-room, fitting-short}
 use Rattle.table.specs.Decoded.{netOf}
 use Rattle.held.specs.Held.{tabled}
-use Rattle.held.proofs.Words.{tabled-tidy}
+use Rattle.held.proofs.Words.{tabled-marking}
 use Rattle.copies.specs.Copies.{copiesOf}
 use Rattle.copies.specs.Writing.{Prepared}
 use Rattle.copies.proofs.Ends.{copies-length}
@@ -29,7 +29,7 @@ prepared s events users bases state h begun e room fits =
 
 -- all that 256 bytes say is gathered
 pub gathered : (state : List ℕ) → state ≡ bytes 256 (marking state) → tabled (marking state) ≡ marking state
-gathered state e = tabled-tidy (marking state) (λ b h. tidy-marking state b (omega (arith, ap length e ∙ length-bytes 256 (marking state))))
+gathered state e = tabled-marking state (omega (arith, ap length e ∙ length-bytes 256 (marking state)))
 
 -- no room: nothing is written
 pub short : (r : Judged) (count needed : ℕ) (copies out : List ℕ) → r ≡ refusedAt 16 count → count ≡ needed → length out < count

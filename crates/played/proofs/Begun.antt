@@ -1,4 +1,4 @@
--- Where a run begins: the words of a table's start, and a run played from a marking that is known by another name.
+-- A run played from a marking is played from whatever that marking is known to be, as the table's start.
 use mathlib.Core.Path.{_≡_, subst}
 use mathlib.Core.List.{List}
 use Prim.Native.Nat.{ℕ}
