@@ -21,7 +21,7 @@ OUTSIDE = {"memcpy", "memset"}
 
 # How many frames of a function that calls itself may stand at once: one for each precondition that it goes down and one at the end.
 # A table that is not refused has at most 256 preconditions in an event.
-FRAMES = {"decided::choose": 257, "event_numbers::weigh": 257, "events::picked": 257}
+FRAMES = {"decided::choose": 257, "events::picked": 257}
 
 LABEL = re.compile(r"[0-9a-f]+ <(.+)>:$")
 CODE = re.compile(r" *([0-9a-f]+):\t(.+?) *(?:#.*)?$")

@@ -1,16 +1,15 @@
 -- What comes after an unfolded event: the next colour of its event, else the first of the next event.
 use mathlib.Core.Path.{_≡_}
 use mathlib.Core.Bool.{false}
-use mathlib.Core.List.{List, [], _∷_, map}
+use mathlib.Core.List.{List}
 use Prim.Native.Nat.{ℕ, suc, _+_, _≤_, _<_}
 use native.Mathlib.Omega.{arith}
-use native.Mathlib.Nat.{mul-le-mul}
 use lib.ListN.{length}
 use Rattle.lists.specs.Lists.{sum}
 use Rattle.words.specs.Words.{wordAt, words}
 use Rattle.model.specs.Net.{Net}
-use Rattle.model.specs.Unfolding.{markers, reads}
-use Rattle.model.specs.Numbering.{ways, size, eventCount}
+use Rattle.model.specs.Unfolding.{reads}
+use Rattle.model.specs.Numbering.{size, eventCount}
 use Rattle.table.specs.Walk.{offsetOf}
 use Rattle.table.specs.Decoded.{netOf}
 use Rattle.tally.specs.Having.{listPart}
@@ -18,12 +17,8 @@ use Rattle.tally.proofs.Events.{walk-next, walk-within}
 use Rattle.colours.specs.Colours.{radices, product, capped}
 use Rattle.layout.proofs.Counts.{sum-next}
 use Rattle.unfolding.specs.Numbers.{Within, Owner}
-use Rattle.unfolding.proofs.Places.{some-marker}
+use Rattle.unfolding.proofs.Places.{some-way}
 use Rattle.unfolding.proofs.Owners.{whole-size, past-end}
-
-some-way : (n : Net) (l : List ℕ) → 0 < ways (map (markers n) l)
-some-way n [] = omega arith
-some-way n (b ∷ l) = omega (arith, mul-le-mul {n₁ = 1} {m₁ = 1} (some-marker n b) (some-way n l))
 
 -- every event has a colour
 some-colour : (n : Net) (e : ℕ) → 0 < size n e

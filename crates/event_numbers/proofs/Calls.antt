@@ -40,11 +40,11 @@ unfolding reads
 few-choices s ms events w e h = omega (arith, length-map (keep (netOf s .persistent) (netOf s .preconditions e)) (markers (netOf s)), w .marked .limits .few-persistent e h)
 
 pub number-fits : (s ms : List ℕ) (events : ℕ) → Within s ms events → (e : ℕ) → e < netOf s .events → (mss : List (List Marker)) → mss ≡ choicesAt (netOf s) e
-    → (c : List Marker) (w k before : ℕ) → weighed mss c ≡ Is w k → before ≡ sum (size (netOf s)) e → before + k ≤ 65535
+    → (c : List Marker) (k before : ℕ) → weighed mss c ≡ Is k → before ≡ sum (size (netOf s)) e → before + k ≤ 65535
 unfolding size
-number-fits s ms events x e h mss m c w k before t b =
-    let o = weighed-told mss c w k t in
-    omega (arith, o .place, radix-below mss c (o .all), ap (λ (l : List (List Marker)). ways l) m, before-few s ms events x e h)
+number-fits s ms events x e h mss m c k before t b =
+    let o = weighed-told mss c k t in
+    omega (arith, o .1, radix-below mss c (o .0), ap (λ (l : List (List Marker)). ways l) m, before-few s ms events x e h)
 
 pub weighing-first : (s ms : List ℕ) (events : ℕ) → Within s ms events → (e at : ℕ) → e < netOf s .events → at ≡ offsetOf s e → (l : List ℕ) → l ≡ listPart false s at → Weighing s ms events (words l)
 weighing-first s ms events w e at h q l p =
@@ -81,11 +81,11 @@ module _ (s : List ℕ) (e : ℕ) (c : Colour) (u : (own : Judged) → unfolding
     pub number-no-colour : weighed mss (colourOf c) ≡ NoSuch → refusedAt 10 0 ≡ numberOf s e c
     number-no-colour t = refuses (no-colour (netOf s) e (colourOf c) (rw m at (weighed-untold mss (colourOf c) t)))
 
-    pub number-found : e < netOf s .events → (k before w : ℕ) → weighed mss (colourOf c) ≡ Is w k → before ≡ sum (size (netOf s)) e → Fine (before + k) ≡ numberOf s e c
+    pub number-found : e < netOf s .events → (k before : ℕ) → weighed mss (colourOf c) ≡ Is k → before ≡ sum (size (netOf s)) e → Fine (before + k) ≡ numberOf s e c
     unfolding numberOf
-    number-found h k before w t b =
-        let x = weighed-told mss (colourOf c) w k t in
-        let all = rw m at (x .all) in
+    number-found h k before t b =
+        let x = weighed-told mss (colourOf c) k t in
+        let all = rw m at (x .0) in
         let n : number (netOf s) (record { event = e; colour = colourOf c }) ≡ before + k
-        = number-is (netOf s) e (colourOf c) h all ∙ rw (b, x .place, m) in
+        = number-is (netOf s) e (colourOf c) h all ∙ rw (b, x .1, m) in
         ap Fine (sym n) ∙ sym (u _ ∙ need-passes 10 0 (number-low (netOf s) e (colourOf c) h all))

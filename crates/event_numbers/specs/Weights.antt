@@ -11,9 +11,9 @@ use Rattle.unfolding.specs.Numbers.{Within, choicesOf, allMark}
 use Rattle.event_numbers.specs.declared.Weighed.{Weighed}
 use Rattle.event_numbers.specs.declared.Weighed.the-variants.{Is, NoSuch}
 
--- What a list of markers comes to: the number of colours and the place among them, or that it is no colour (01, Unfolding).
+-- What a list of markers comes to: the place among the colours, or that it is no colour (01, Unfolding).
 abbrev pub weighed : List (List Marker) → List Marker → Weighed
-weighed mss c = cond (allMark mss c) (Is (ways mss) (radix mss c)) NoSuch
+weighed mss c = cond (allMark mss c) (Is (radix mss c)) NoSuch
 
 -- What must hold to put markers together into a number.
 pub record Weighing (s ms : List ℕ) (events : ℕ) (l : List ℕ) : Type 0 where

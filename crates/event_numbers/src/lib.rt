@@ -3,68 +3,56 @@ use events::Colour;
 use refusal::Judged;
 use refusal::TableEvent;
 ghost use mathlib.Core.Path.{_≡_};
-ghost use mathlib.Core.List.{[]};
 ghost use Prim.Native.Nat.{_≤_};
 ghost use Rattle.words.specs.Words.{words};
 ghost use Rattle.unfolding.specs.Numbers.{choicesOf};
-ghost use Rattle.events.specs.Colours.{colourFrom};
+ghost use Rattle.events.specs.Colours.{colourOf};
 ghost use Rattle.event_numbers.specs.Weights.{weighed, Weighing};
 ghost use Rattle.event_numbers.specs.Answers.{numberOf};
 
-// What a list of markers comes to: the number of colours and the place among them.
+// What the markers of a colour come to: the place among the colours of an event, or that they are none of these.
 enum Weighed {
-    Is(usize, usize),
+    Is(usize),
     NoSuch,
 }
 
-// What the markers of c from a place on come to where no precondition is left: one colour, which has no marker.
-fn weigh_none(c: Colour, at: usize) -> Weighed
-    requires { ⌜ at ≤ c .count ⌝ }
-    ensures { λ r. ⌜ r ≡ weighed [] (colourFrom c at) ⌝ }
-{
-    if at == c.count {
-        return Weighed::Is(1, 0);
-    }
-    Weighed::NoSuch
-}
-
-// What the markers of c from a place on come to, down the persistent preconditions; that one does not mark is passed up.
+// What the markers of c come to, one for each persistent precondition, the lowest of which counts slowest.
 fn weigh<'a>(
     c: Colour,
-    at: usize,
     table: &'a [u8],
     events: usize,
     markers: &'a [u32],
     pre: &'a [u8],
 ) -> Weighed
     requires { ⌜ Weighing (now table) (now markers) events (words (now pre)) ⌝ }
-    requires { ⌜ at ≤ c .count ⌝ }
     requires { ⌜ c .count ≤ 16 ⌝ }
-    ensures { λ r. ⌜ r ≡ weighed (choicesOf (now (table .entry)) (words (now (pre .entry)))) (colourFrom c at) ⌝ }
+    ensures { λ r. ⌜ r ≡ weighed (choicesOf (now (table .entry)) (words (now (pre .entry)))) (colourOf c) ⌝ }
 {
-    if pre.len() < 2 {
-        return weigh_none(c, at);
-    }
-    let b = words::word(pre, 0) as usize;
-    if colours::is_persistent(table, b) {
-        if at == c.count {
-            return Weighed::NoSuch;
+    let mut number: usize = 0;
+    let mut at: usize = 0;
+    let mut i: usize = 0;
+    while 1 < pre.len() - i {
+        let b = words::word_within(pre, i) as usize;
+        if colours::is_persistent(table, b) {
+            if at == c.count {
+                return Weighed::NoSuch;
+            }
+            let p = c.picks[at];
+            let m = p.0;
+            let place = unfolding::marker_place(table, events, b, m);
+            let radix = tally::number(markers, b) as usize;
+            if radix <= place {
+                return Weighed::NoSuch;
+            }
+            number = number * radix + place;
+            at = at + 1;
         }
-        let Weighed::Is(weight, number) = weigh(c, at + 1, table, events, markers, &pre[2..]) else {
-            return Weighed::NoSuch;
-        };
-        let p = c.picks[at];
-        let m = p.0;
-        let place = unfolding::marker_place(table, events, b, m);
-        let radix = tally::number(markers, b) as usize;
-        if place < radix {
-            Weighed::Is(radix * weight, place * weight + number)
-        } else {
-            Weighed::NoSuch
-        }
-    } else {
-        weigh(c, at, table, events, markers, &pre[2..])
+        i = i + 2;
     }
+    if at < c.count {
+        return Weighed::NoSuch;
+    }
+    Weighed::Is(number)
 }
 
 // The number for an event and markers.
@@ -86,8 +74,8 @@ pub fn event_number(table: &[u8], event: TableEvent, colour: Colour) -> Judged
         return refusal::refused(10, 0);
     }
     let pre = tally::list_at(table, table::offset(table, e), false);
-    let w = weigh(colour, 0, table, events, &markers, pre);
-    let Weighed::Is(_, place) = w else {
+    let w = weigh(colour, table, events, &markers, pre);
+    let Weighed::Is(place) = w else {
         return refusal::refused(10, 0);
     };
     Judged::Fine(unfolding::colours_before(table, events, &markers, e as usize) + place)

@@ -1,7 +1,8 @@
 -- Markers by their places among those of a condition, and back.
 use Prim.Native.Nat.{ℕ, zero, suc, _+_, _-_, _≤_, _<_}
 use native.Mathlib.Omega.{arith}
-use native.Mathlib.Numerals.{sub-one}
+use native.Mathlib.Nat.{mul-le-mul}
+use native.Mathlib.Numerals.{add-one, sub-one}
 use mathlib.Core.Path.{_≡_, refl}
 use mathlib.Core.List.{List, [], _∷_, map}
 use mathlib.Core.Bool.{Bool, true, false, cond}
@@ -11,10 +12,12 @@ use Rattle.lists.specs.Lists.{index, keep, count}
 use Rattle.model.specs.Net.{Net}
 use Rattle.model.specs.Runs.{Marker, atStart, byEvent}
 use Rattle.model.specs.Unfolding.{sameMarker, markers}
+use Rattle.model.specs.Numbering.{ways}
 use Rattle.model.proofs.Unfolded.{index-events}
-use Rattle.refusal.specs.declared.Marker.the-variants.{Start, ByEvent}
+use Rattle.refusal.specs.declared.Marker.the-variants.{ByEvent}
 use Rattle.tally.specs.Having.{having}
 use Rattle.unfolding.specs.Markers.{shown}
+use Rattle.unfolding.specs.Numbers.{code, told}
 
 map-at : (l : List ℕ) (p : ℕ) → p < length l → getD (map byEvent l) p atStart ≡ byEvent (getD l p 0)
 map-at [] p h = absurd (omega arith)
@@ -38,15 +41,25 @@ kept-below t i (suc k) d = go (t i) d (λ d. kept-below t (suc i) k d)
     go true (suc d) ih = omega (arith, ih d)
     go false d ih = omega (arith, ih d)
 
-module _ (n : Net) (b : ℕ) where
-  pub marker-start : (p : ℕ) → p ≡ 0 → Start ≡ shown (getD (markers n b) p atStart)
-  unfolding markers
-  marker-start p z = rw z
+-- ---- a marker as a number
 
-  pub marker-event : (p k : ℕ) → k ≡ n .events → (p ≡ 0 → ⊥) → p < length (markers n b) → ByEvent (record { 0 = getD (having n true b k) (p - 1) 0 }) ≡ shown (getD (markers n b) p atStart)
+pub code-told : (m : Marker) → told (code m) ≡ m
+code-told atStart = refl
+code-told (byEvent e) = rw add-one
+
+pub told-event : (k : ℕ) → (k ≡ 0 → ⊥) → ByEvent (record { 0 = k - 1 }) ≡ shown (told k)
+told-event zero z = absurd (z refl)
+told-event (suc k) z = rw sub-one
+
+module _ (n : Net) (b : ℕ) where
+  pub code-start : (p : ℕ) → p ≡ 0 → 0 ≡ code (getD (markers n b) p atStart)
   unfolding markers
-  marker-event zero k q z h = absurd (z refl)
-  marker-event (suc p) k q z h = rw (q, sub-one, map-at (having n true b (n .events)) p (omega (arith, length-map {B = Marker} (having n true b (n .events)) byEvent)))
+  code-start p z = rw z
+
+  pub code-event : (p k : ℕ) → k ≡ n .events → (p ≡ 0 → ⊥) → p < length (markers n b) → getD (having n true b k) (p - 1) 0 + 1 ≡ code (getD (markers n b) p atStart)
+  unfolding markers
+  code-event zero k q z h = absurd (z refl)
+  code-event (suc p) k q z h = rw (q, sub-one, map-at (having n true b (n .events)) p (omega (arith, length-map {B = Marker} (having n true b (n .events)) byEvent)))
 
   pub place-event : (e k : ℕ) → k ≡ n .events → index (sameMarker (byEvent e)) (markers n b) ≡ 1 + index (eqb e) (having n true b k)
   unfolding markers
@@ -59,3 +72,8 @@ module _ (n : Net) (b : ℕ) where
   pub some-marker : 0 < length (markers n b)
   unfolding markers
   some-marker = omega arith
+
+-- every list of conditions leaves a way
+pub some-way : (n : Net) (l : List ℕ) → 0 < ways (map (markers n) l)
+some-way n [] = omega arith
+some-way n (b ∷ l) = omega (arith, mul-le-mul {n₁ = 1} {m₁ = 1} (some-marker n b) (some-way n l))

@@ -1,12 +1,12 @@
--- What the walks over a table tell: which event a number belongs to, and which lists of markers are its colours.
-use Prim.Native.Nat.{ℕ, _+_, _≤_, _<_}
+-- What the walks over a table tell: which event a number belongs to, which lists of markers are its colours, and markers as numbers.
+use Prim.Native.Nat.{ℕ, zero, suc, _+_, _≤_, _<_}
 use mathlib.Core.Path.{_≡_}
 use mathlib.Core.Bool.{Bool, true, false, _&&_}
 use mathlib.Core.List.{List, [], _∷_, map}
 use lib.Dec.{ltb}
 use lib.ListN.{length}
 use Rattle.lists.specs.Lists.{index, keep, sum}
-use Rattle.model.specs.Runs.{Marker}
+use Rattle.model.specs.Runs.{Marker, atStart, byEvent}
 use Rattle.model.specs.Unfolding.{sameMarker, markers}
 use Rattle.model.specs.Numbering.{size, eventCount}
 use Rattle.model.specs.Across.{mostUnfolded}
@@ -45,3 +45,13 @@ allMark [] [] = true
 allMark [] (m ∷ c) = false
 allMark (ms ∷ mss) [] = false
 allMark (ms ∷ mss) (m ∷ c) = ltb (index (sameMarker m) ms) (length ms) && allMark mss c
+
+-- A marker as a number: 0 for the start, else one more than its event.
+abbrev pub code : Marker → ℕ
+code atStart = 0
+code (byEvent e) = e + 1
+
+-- The marker that such a number tells.
+abbrev pub told : ℕ → Marker
+told zero = atStart
+told (suc e) = byEvent e

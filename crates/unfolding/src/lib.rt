@@ -13,12 +13,35 @@ ghost use Rattle.model.specs.Numbering.{size};
 ghost use Rattle.table.specs.Decoded.{netOf};
 ghost use Rattle.layout.specs.Unfolds.{unfoldingOf};
 ghost use Rattle.unfolding.specs.Markers.{shown, meant};
-ghost use Rattle.unfolding.specs.Numbers.{Within, Belongs};
+ghost use Rattle.unfolding.specs.Numbers.{Within, Belongs, code, told};
 
 // The event that a number belongs to, its offset, what is left of the number, and its number of colours.
 pub enum Found {
     At(usize, usize, u32, u32),
     Past,
+}
+
+// The marker at a place among those of condition b, as a number: 0 for the start, else one more than its event.
+pub fn marker_code(table: &[u8], events: usize, b: usize, place: usize) -> u16
+    requires { ⌜ events ≡ netOf (now table) .events ⌝ }
+    requires { ⌜ events ≤ 256 ⌝ }
+    requires { ⌜ place < length (markers (netOf (now table)) b) ⌝ }
+    ensures { λ r. ⌜ r ≡ code (getD (markers (netOf (now (table .entry))) b) place atStart) ⌝ }
+{
+    if place == 0 {
+        return 0;
+    }
+    tally::nth(table, events, true, b, place - 1) as u16 + 1
+}
+
+// The marker that such a number tells.
+pub fn marker_of(code: u16) -> Marker
+    ensures { λ r. ⌜ r ≡ shown (told code) ⌝ }
+{
+    if code == 0 {
+        return Marker::Start;
+    }
+    Marker::ByEvent(TableEvent(code - 1))
 }
 
 // The marker at a place among those of condition b.
@@ -28,11 +51,7 @@ pub fn marker_at(table: &[u8], events: usize, b: usize, place: usize) -> Marker
     requires { ⌜ place < length (markers (netOf (now table)) b) ⌝ }
     ensures { λ r. ⌜ r ≡ shown (getD (markers (netOf (now (table .entry))) b) place atStart) ⌝ }
 {
-    if place == 0 {
-        return Marker::Start;
-    }
-    let e = tally::nth(table, events, true, b, place - 1);
-    Marker::ByEvent(TableEvent(e as u16))
+    marker_of(marker_code(table, events, b, place))
 }
 
 // The place of a marker among those of condition b; their number where it is none of them.

@@ -29,7 +29,7 @@ returns-3 c =
 
 weigh-requires : tie.Need-weigh-requires
 weigh-requires c κs =
-    (weighing-first (c .before .before .before .before .before .before .before .before .before .before .before .before .before .before .before .before .before .args .table .now) (c .before .before .before .before .before .before .before .before .before .before .before .before .lay-out .last .1 .0) (c .before .before .before .before .before .before .before .r .given .0 .0) (within-laid (c .before .before .before .before .before .before .before .before .before .before .before .before .before .before .before .before .before .args .table .now) (c .before .before .before .before .before .before .before .before .before .before .before .before .lay-out .last .1 .0) (c .before .before .before .before .before .before .before .before .before .before .before .before .lay-out .last .1 .1 .0) (c .before .before .before .before .before .before .before .before .before .before .before .before .lay-out .last .1 .1 .1 .0) (c .before .before .before .before .before .before .before .r .given .0 .0) (c .before .before .before .before .before .before .before .before .before .before .before .before .lay-out .ensures .laid (c .before .before .before .before .before .before .before .r .given .0 .0) (c .before .before .before .before .before .before .before .r .given .1)) (unfolds-on (c .before .before .before .before .before .before .before .before .before .before .before .before .before .before .before .before .before .args .table .now) (Fine 0) (netOf (c .before .before .before .before .before .before .before .before .before .before .before .before .before .before .before .before .before .args .table .now) .events) (c .before .before .before .before .before .before .before .before .before .before .before .before .lay-out .ensures .answer) (c .before .before .before .before .before .before .before .r .given .1) .1)) (c .before .before .before .before .before .before .before .before .before .before .before .before .before .before .before .before .before .args .event .0) (c .before .before .offset .result) (omega (arith, (unfolds-on (c .before .before .before .before .before .before .before .before .before .before .before .before .before .before .before .before .before .args .table .now) (Fine 0) (netOf (c .before .before .before .before .before .before .before .before .before .before .before .before .before .before .before .before .before .args .table .now) .events) (c .before .before .before .before .before .before .before .before .before .before .before .before .lay-out .ensures .answer) (c .before .before .before .before .before .before .before .r .given .1) .1), c .before .before .before .before .before .if1 .left)) (c .before .before .offset .ensures) (c .before .list-at .result .now) (c .before .list-at .ensures), (omega arith, c .before .before .before .if2 .left))
+    (weighing-first (c .before .before .before .before .before .before .before .before .before .before .before .before .before .before .before .before .before .args .table .now) (c .before .before .before .before .before .before .before .before .before .before .before .before .lay-out .last .1 .0) (c .before .before .before .before .before .before .before .r .given .0 .0) (within-laid (c .before .before .before .before .before .before .before .before .before .before .before .before .before .before .before .before .before .args .table .now) (c .before .before .before .before .before .before .before .before .before .before .before .before .lay-out .last .1 .0) (c .before .before .before .before .before .before .before .before .before .before .before .before .lay-out .last .1 .1 .0) (c .before .before .before .before .before .before .before .before .before .before .before .before .lay-out .last .1 .1 .1 .0) (c .before .before .before .before .before .before .before .r .given .0 .0) (c .before .before .before .before .before .before .before .before .before .before .before .before .lay-out .ensures .laid (c .before .before .before .before .before .before .before .r .given .0 .0) (c .before .before .before .before .before .before .before .r .given .1)) (unfolds-on (c .before .before .before .before .before .before .before .before .before .before .before .before .before .before .before .before .before .args .table .now) (Fine 0) (netOf (c .before .before .before .before .before .before .before .before .before .before .before .before .before .before .before .before .before .args .table .now) .events) (c .before .before .before .before .before .before .before .before .before .before .before .before .lay-out .ensures .answer) (c .before .before .before .before .before .before .before .r .given .1) .1)) (c .before .before .before .before .before .before .before .before .before .before .before .before .before .before .before .before .before .args .event .0) (c .before .before .offset .result) (omega (arith, (unfolds-on (c .before .before .before .before .before .before .before .before .before .before .before .before .before .before .before .before .before .args .table .now) (Fine 0) (netOf (c .before .before .before .before .before .before .before .before .before .before .before .before .before .before .before .before .before .args .table .now) .events) (c .before .before .before .before .before .before .before .before .before .before .before .before .lay-out .ensures .answer) (c .before .before .before .before .before .before .before .r .given .1) .1), c .before .before .before .before .before .if1 .left)) (c .before .before .offset .ensures) (c .before .list-at .result .now) (c .before .list-at .ensures), c .before .before .before .if2 .left)
 
 returns-4 : tie.Need-returns-4
 returns-4 c =
@@ -41,11 +41,11 @@ colours-before-requires c κs =
 
 add-t26 : tie.Need-add-t26
 add-t26 c =
-    omega (arith, number-fits (c .before .before .before .before .before .before .before .before .before .before .before .before .before .before .before .before .before .before .before .before .before .before .before .args .table .now) (c .before .before .before .before .before .before .before .before .before .before .before .before .before .before .before .before .before .before .lay-out .last .1 .0) (c .before .before .before .before .before .before .before .before .before .before .before .before .before .r .given .0 .0) (within-laid (c .before .before .before .before .before .before .before .before .before .before .before .before .before .before .before .before .before .before .before .before .before .before .before .args .table .now) (c .before .before .before .before .before .before .before .before .before .before .before .before .before .before .before .before .before .before .lay-out .last .1 .0) (c .before .before .before .before .before .before .before .before .before .before .before .before .before .before .before .before .before .before .lay-out .last .1 .1 .0) (c .before .before .before .before .before .before .before .before .before .before .before .before .before .before .before .before .before .before .lay-out .last .1 .1 .1 .0) (c .before .before .before .before .before .before .before .before .before .before .before .before .before .r .given .0 .0) (c .before .before .before .before .before .before .before .before .before .before .before .before .before .before .before .before .before .before .lay-out .ensures .laid (c .before .before .before .before .before .before .before .before .before .before .before .before .before .r .given .0 .0) (c .before .before .before .before .before .before .before .before .before .before .before .before .before .r .given .1)) (unfolds-on (c .before .before .before .before .before .before .before .before .before .before .before .before .before .before .before .before .before .before .before .before .before .before .before .args .table .now) (Fine 0) (netOf (c .before .before .before .before .before .before .before .before .before .before .before .before .before .before .before .before .before .before .before .before .before .before .before .args .table .now) .events) (c .before .before .before .before .before .before .before .before .before .before .before .before .before .before .before .before .before .before .lay-out .ensures .answer) (c .before .before .before .before .before .before .before .before .before .before .before .before .before .r .given .1) .1)) (c .before .before .before .before .before .before .before .before .before .before .before .before .before .before .before .before .before .before .before .before .before .before .before .args .event .0) (omega (arith, (unfolds-on (c .before .before .before .before .before .before .before .before .before .before .before .before .before .before .before .before .before .before .before .before .before .before .before .args .table .now) (Fine 0) (netOf (c .before .before .before .before .before .before .before .before .before .before .before .before .before .before .before .before .before .before .before .before .before .before .before .args .table .now) .events) (c .before .before .before .before .before .before .before .before .before .before .before .before .before .before .before .before .before .before .lay-out .ensures .answer) (c .before .before .before .before .before .before .before .before .before .before .before .before .before .r .given .1) .1), c .before .before .before .before .before .before .before .before .before .before .before .if1 .left)) _ (choices-are (c .before .before .before .before .before .before .before .before .before .before .before .before .before .before .before .before .before .before .before .before .before .before .before .args .table .now) (c .before .before .before .before .before .before .before .before .before .before .before .before .before .before .before .before .before .before .lay-out .last .1 .0) (c .before .before .before .before .before .before .before .before .before .before .before .before .before .r .given .0 .0) (within-laid (c .before .before .before .before .before .before .before .before .before .before .before .before .before .before .before .before .before .before .before .before .before .before .before .args .table .now) (c .before .before .before .before .before .before .before .before .before .before .before .before .before .before .before .before .before .before .lay-out .last .1 .0) (c .before .before .before .before .before .before .before .before .before .before .before .before .before .before .before .before .before .before .lay-out .last .1 .1 .0) (c .before .before .before .before .before .before .before .before .before .before .before .before .before .before .before .before .before .before .lay-out .last .1 .1 .1 .0) (c .before .before .before .before .before .before .before .before .before .before .before .before .before .r .given .0 .0) (c .before .before .before .before .before .before .before .before .before .before .before .before .before .before .before .before .before .before .lay-out .ensures .laid (c .before .before .before .before .before .before .before .before .before .before .before .before .before .r .given .0 .0) (c .before .before .before .before .before .before .before .before .before .before .before .before .before .r .given .1)) (unfolds-on (c .before .before .before .before .before .before .before .before .before .before .before .before .before .before .before .before .before .before .before .before .before .before .before .args .table .now) (Fine 0) (netOf (c .before .before .before .before .before .before .before .before .before .before .before .before .before .before .before .before .before .before .before .before .before .before .before .args .table .now) .events) (c .before .before .before .before .before .before .before .before .before .before .before .before .before .before .before .before .before .before .lay-out .ensures .answer) (c .before .before .before .before .before .before .before .before .before .before .before .before .before .r .given .1) .1)) (c .before .before .before .before .before .before .before .before .before .before .before .before .before .before .before .before .before .before .before .before .before .before .before .args .event .0) (c .before .before .before .before .before .before .before .before .offset .result) (omega (arith, (unfolds-on (c .before .before .before .before .before .before .before .before .before .before .before .before .before .before .before .before .before .before .before .before .before .before .before .args .table .now) (Fine 0) (netOf (c .before .before .before .before .before .before .before .before .before .before .before .before .before .before .before .before .before .before .before .before .before .before .before .args .table .now) .events) (c .before .before .before .before .before .before .before .before .before .before .before .before .before .before .before .before .before .before .lay-out .ensures .answer) (c .before .before .before .before .before .before .before .before .before .before .before .before .before .r .given .1) .1), c .before .before .before .before .before .before .before .before .before .before .before .if1 .left)) (c .before .before .before .before .before .before .before .before .offset .ensures) (c .before .before .before .before .before .before .before .list-at .result .now) (c .before .before .before .before .before .before .before .list-at .ensures)) (colourOf (c .before .before .before .before .before .before .before .before .before .before .before .before .before .before .before .before .before .before .before .before .before .before .before .args .colour)) (c .before .before .before .w .given .0 .0) (c .before .before .before .w .given .0 .1 .0) (c .colours-before .result) (sym (c .before .before .before .before .before .weigh .ensures) ∙ c .before .before .before .w .given .1) (c .colours-before .ensures))
+    omega (arith, number-fits (c .before .before .before .before .before .before .before .before .before .before .before .before .before .before .before .before .before .before .before .before .before .before .before .args .table .now) (c .before .before .before .before .before .before .before .before .before .before .before .before .before .before .before .before .before .before .lay-out .last .1 .0) (c .before .before .before .before .before .before .before .before .before .before .before .before .before .r .given .0 .0) (within-laid (c .before .before .before .before .before .before .before .before .before .before .before .before .before .before .before .before .before .before .before .before .before .before .before .args .table .now) (c .before .before .before .before .before .before .before .before .before .before .before .before .before .before .before .before .before .before .lay-out .last .1 .0) (c .before .before .before .before .before .before .before .before .before .before .before .before .before .before .before .before .before .before .lay-out .last .1 .1 .0) (c .before .before .before .before .before .before .before .before .before .before .before .before .before .before .before .before .before .before .lay-out .last .1 .1 .1 .0) (c .before .before .before .before .before .before .before .before .before .before .before .before .before .r .given .0 .0) (c .before .before .before .before .before .before .before .before .before .before .before .before .before .before .before .before .before .before .lay-out .ensures .laid (c .before .before .before .before .before .before .before .before .before .before .before .before .before .r .given .0 .0) (c .before .before .before .before .before .before .before .before .before .before .before .before .before .r .given .1)) (unfolds-on (c .before .before .before .before .before .before .before .before .before .before .before .before .before .before .before .before .before .before .before .before .before .before .before .args .table .now) (Fine 0) (netOf (c .before .before .before .before .before .before .before .before .before .before .before .before .before .before .before .before .before .before .before .before .before .before .before .args .table .now) .events) (c .before .before .before .before .before .before .before .before .before .before .before .before .before .before .before .before .before .before .lay-out .ensures .answer) (c .before .before .before .before .before .before .before .before .before .before .before .before .before .r .given .1) .1)) (c .before .before .before .before .before .before .before .before .before .before .before .before .before .before .before .before .before .before .before .before .before .before .before .args .event .0) (omega (arith, (unfolds-on (c .before .before .before .before .before .before .before .before .before .before .before .before .before .before .before .before .before .before .before .before .before .before .before .args .table .now) (Fine 0) (netOf (c .before .before .before .before .before .before .before .before .before .before .before .before .before .before .before .before .before .before .before .before .before .before .before .args .table .now) .events) (c .before .before .before .before .before .before .before .before .before .before .before .before .before .before .before .before .before .before .lay-out .ensures .answer) (c .before .before .before .before .before .before .before .before .before .before .before .before .before .r .given .1) .1), c .before .before .before .before .before .before .before .before .before .before .before .if1 .left)) _ (choices-are (c .before .before .before .before .before .before .before .before .before .before .before .before .before .before .before .before .before .before .before .before .before .before .before .args .table .now) (c .before .before .before .before .before .before .before .before .before .before .before .before .before .before .before .before .before .before .lay-out .last .1 .0) (c .before .before .before .before .before .before .before .before .before .before .before .before .before .r .given .0 .0) (within-laid (c .before .before .before .before .before .before .before .before .before .before .before .before .before .before .before .before .before .before .before .before .before .before .before .args .table .now) (c .before .before .before .before .before .before .before .before .before .before .before .before .before .before .before .before .before .before .lay-out .last .1 .0) (c .before .before .before .before .before .before .before .before .before .before .before .before .before .before .before .before .before .before .lay-out .last .1 .1 .0) (c .before .before .before .before .before .before .before .before .before .before .before .before .before .before .before .before .before .before .lay-out .last .1 .1 .1 .0) (c .before .before .before .before .before .before .before .before .before .before .before .before .before .r .given .0 .0) (c .before .before .before .before .before .before .before .before .before .before .before .before .before .before .before .before .before .before .lay-out .ensures .laid (c .before .before .before .before .before .before .before .before .before .before .before .before .before .r .given .0 .0) (c .before .before .before .before .before .before .before .before .before .before .before .before .before .r .given .1)) (unfolds-on (c .before .before .before .before .before .before .before .before .before .before .before .before .before .before .before .before .before .before .before .before .before .before .before .args .table .now) (Fine 0) (netOf (c .before .before .before .before .before .before .before .before .before .before .before .before .before .before .before .before .before .before .before .before .before .before .before .args .table .now) .events) (c .before .before .before .before .before .before .before .before .before .before .before .before .before .before .before .before .before .before .lay-out .ensures .answer) (c .before .before .before .before .before .before .before .before .before .before .before .before .before .r .given .1) .1)) (c .before .before .before .before .before .before .before .before .before .before .before .before .before .before .before .before .before .before .before .before .before .before .before .args .event .0) (c .before .before .before .before .before .before .before .before .offset .result) (omega (arith, (unfolds-on (c .before .before .before .before .before .before .before .before .before .before .before .before .before .before .before .before .before .before .before .before .before .before .before .args .table .now) (Fine 0) (netOf (c .before .before .before .before .before .before .before .before .before .before .before .before .before .before .before .before .before .before .before .before .before .before .before .args .table .now) .events) (c .before .before .before .before .before .before .before .before .before .before .before .before .before .before .before .before .before .before .lay-out .ensures .answer) (c .before .before .before .before .before .before .before .before .before .before .before .before .before .r .given .1) .1), c .before .before .before .before .before .before .before .before .before .before .before .if1 .left)) (c .before .before .before .before .before .before .before .before .offset .ensures) (c .before .before .before .before .before .before .before .list-at .result .now) (c .before .before .before .before .before .before .before .list-at .ensures)) (colourOf (c .before .before .before .before .before .before .before .before .before .before .before .before .before .before .before .before .before .before .before .before .before .before .before .args .colour)) (c .before .before .before .w .given .0 .0) (c .colours-before .result) (sym (c .before .before .before .before .before .weigh .ensures) ∙ c .before .before .before .w .given .1) (c .colours-before .ensures))
 
 returns-5 : tie.Need-returns-5
 returns-5 c =
-    number-found (c .before .before .before .before .before .before .before .before .before .before .before .before .before .before .before .before .before .before .before .before .before .before .before .args .table .now) (c .before .before .before .before .before .before .before .before .before .before .before .before .before .before .before .before .before .before .before .before .before .before .before .args .event .0) (c .before .before .before .before .before .before .before .before .before .before .before .before .before .before .before .before .before .before .before .before .before .before .before .args .colour) (λ own. unfolds-on (c .before .before .before .before .before .before .before .before .before .before .before .before .before .before .before .before .before .before .before .before .before .before .before .args .table .now) own (netOf (c .before .before .before .before .before .before .before .before .before .before .before .before .before .before .before .before .before .before .before .before .before .before .before .args .table .now) .events) (c .before .before .before .before .before .before .before .before .before .before .before .before .before .before .before .before .before .before .lay-out .ensures .answer) (c .before .before .before .before .before .before .before .before .before .before .before .before .before .r .given .1) .0) _ (choices-are (c .before .before .before .before .before .before .before .before .before .before .before .before .before .before .before .before .before .before .before .before .before .before .before .args .table .now) (c .before .before .before .before .before .before .before .before .before .before .before .before .before .before .before .before .before .before .lay-out .last .1 .0) (c .before .before .before .before .before .before .before .before .before .before .before .before .before .r .given .0 .0) (within-laid (c .before .before .before .before .before .before .before .before .before .before .before .before .before .before .before .before .before .before .before .before .before .before .before .args .table .now) (c .before .before .before .before .before .before .before .before .before .before .before .before .before .before .before .before .before .before .lay-out .last .1 .0) (c .before .before .before .before .before .before .before .before .before .before .before .before .before .before .before .before .before .before .lay-out .last .1 .1 .0) (c .before .before .before .before .before .before .before .before .before .before .before .before .before .before .before .before .before .before .lay-out .last .1 .1 .1 .0) (c .before .before .before .before .before .before .before .before .before .before .before .before .before .r .given .0 .0) (c .before .before .before .before .before .before .before .before .before .before .before .before .before .before .before .before .before .before .lay-out .ensures .laid (c .before .before .before .before .before .before .before .before .before .before .before .before .before .r .given .0 .0) (c .before .before .before .before .before .before .before .before .before .before .before .before .before .r .given .1)) (unfolds-on (c .before .before .before .before .before .before .before .before .before .before .before .before .before .before .before .before .before .before .before .before .before .before .before .args .table .now) (Fine 0) (netOf (c .before .before .before .before .before .before .before .before .before .before .before .before .before .before .before .before .before .before .before .before .before .before .before .args .table .now) .events) (c .before .before .before .before .before .before .before .before .before .before .before .before .before .before .before .before .before .before .lay-out .ensures .answer) (c .before .before .before .before .before .before .before .before .before .before .before .before .before .r .given .1) .1)) (c .before .before .before .before .before .before .before .before .before .before .before .before .before .before .before .before .before .before .before .before .before .before .before .args .event .0) (c .before .before .before .before .before .before .before .before .offset .result) (omega (arith, (unfolds-on (c .before .before .before .before .before .before .before .before .before .before .before .before .before .before .before .before .before .before .before .before .before .before .before .args .table .now) (Fine 0) (netOf (c .before .before .before .before .before .before .before .before .before .before .before .before .before .before .before .before .before .before .before .before .before .before .before .args .table .now) .events) (c .before .before .before .before .before .before .before .before .before .before .before .before .before .before .before .before .before .before .lay-out .ensures .answer) (c .before .before .before .before .before .before .before .before .before .before .before .before .before .r .given .1) .1), c .before .before .before .before .before .before .before .before .before .before .before .if1 .left)) (c .before .before .before .before .before .before .before .before .offset .ensures) (c .before .before .before .before .before .before .before .list-at .result .now) (c .before .before .before .before .before .before .before .list-at .ensures)) (omega (arith, (unfolds-on (c .before .before .before .before .before .before .before .before .before .before .before .before .before .before .before .before .before .before .before .before .before .before .before .args .table .now) (Fine 0) (netOf (c .before .before .before .before .before .before .before .before .before .before .before .before .before .before .before .before .before .before .before .before .before .before .before .args .table .now) .events) (c .before .before .before .before .before .before .before .before .before .before .before .before .before .before .before .before .before .before .lay-out .ensures .answer) (c .before .before .before .before .before .before .before .before .before .before .before .before .before .r .given .1) .1), c .before .before .before .before .before .before .before .before .before .before .before .if1 .left)) (c .before .before .before .w .given .0 .1 .0) (c .colours-before .result) (c .before .before .before .w .given .0 .0) (sym (c .before .before .before .before .before .weigh .ensures) ∙ c .before .before .before .w .given .1) (c .colours-before .ensures)
+    number-found (c .before .before .before .before .before .before .before .before .before .before .before .before .before .before .before .before .before .before .before .before .before .before .before .args .table .now) (c .before .before .before .before .before .before .before .before .before .before .before .before .before .before .before .before .before .before .before .before .before .before .before .args .event .0) (c .before .before .before .before .before .before .before .before .before .before .before .before .before .before .before .before .before .before .before .before .before .before .before .args .colour) (λ own. unfolds-on (c .before .before .before .before .before .before .before .before .before .before .before .before .before .before .before .before .before .before .before .before .before .before .before .args .table .now) own (netOf (c .before .before .before .before .before .before .before .before .before .before .before .before .before .before .before .before .before .before .before .before .before .before .before .args .table .now) .events) (c .before .before .before .before .before .before .before .before .before .before .before .before .before .before .before .before .before .before .lay-out .ensures .answer) (c .before .before .before .before .before .before .before .before .before .before .before .before .before .r .given .1) .0) _ (choices-are (c .before .before .before .before .before .before .before .before .before .before .before .before .before .before .before .before .before .before .before .before .before .before .before .args .table .now) (c .before .before .before .before .before .before .before .before .before .before .before .before .before .before .before .before .before .before .lay-out .last .1 .0) (c .before .before .before .before .before .before .before .before .before .before .before .before .before .r .given .0 .0) (within-laid (c .before .before .before .before .before .before .before .before .before .before .before .before .before .before .before .before .before .before .before .before .before .before .before .args .table .now) (c .before .before .before .before .before .before .before .before .before .before .before .before .before .before .before .before .before .before .lay-out .last .1 .0) (c .before .before .before .before .before .before .before .before .before .before .before .before .before .before .before .before .before .before .lay-out .last .1 .1 .0) (c .before .before .before .before .before .before .before .before .before .before .before .before .before .before .before .before .before .before .lay-out .last .1 .1 .1 .0) (c .before .before .before .before .before .before .before .before .before .before .before .before .before .r .given .0 .0) (c .before .before .before .before .before .before .before .before .before .before .before .before .before .before .before .before .before .before .lay-out .ensures .laid (c .before .before .before .before .before .before .before .before .before .before .before .before .before .r .given .0 .0) (c .before .before .before .before .before .before .before .before .before .before .before .before .before .r .given .1)) (unfolds-on (c .before .before .before .before .before .before .before .before .before .before .before .before .before .before .before .before .before .before .before .before .before .before .before .args .table .now) (Fine 0) (netOf (c .before .before .before .before .before .before .before .before .before .before .before .before .before .before .before .before .before .before .before .before .before .before .before .args .table .now) .events) (c .before .before .before .before .before .before .before .before .before .before .before .before .before .before .before .before .before .before .lay-out .ensures .answer) (c .before .before .before .before .before .before .before .before .before .before .before .before .before .r .given .1) .1)) (c .before .before .before .before .before .before .before .before .before .before .before .before .before .before .before .before .before .before .before .before .before .before .before .args .event .0) (c .before .before .before .before .before .before .before .before .offset .result) (omega (arith, (unfolds-on (c .before .before .before .before .before .before .before .before .before .before .before .before .before .before .before .before .before .before .before .before .before .before .before .args .table .now) (Fine 0) (netOf (c .before .before .before .before .before .before .before .before .before .before .before .before .before .before .before .before .before .before .before .before .before .before .before .args .table .now) .events) (c .before .before .before .before .before .before .before .before .before .before .before .before .before .before .before .before .before .before .lay-out .ensures .answer) (c .before .before .before .before .before .before .before .before .before .before .before .before .before .r .given .1) .1), c .before .before .before .before .before .before .before .before .before .before .before .if1 .left)) (c .before .before .before .before .before .before .before .before .offset .ensures) (c .before .before .before .before .before .before .before .list-at .result .now) (c .before .before .before .before .before .before .before .list-at .ensures)) (omega (arith, (unfolds-on (c .before .before .before .before .before .before .before .before .before .before .before .before .before .before .before .before .before .before .before .before .before .before .before .args .table .now) (Fine 0) (netOf (c .before .before .before .before .before .before .before .before .before .before .before .before .before .before .before .before .before .before .before .before .before .before .before .args .table .now) .events) (c .before .before .before .before .before .before .before .before .before .before .before .before .before .before .before .before .before .before .lay-out .ensures .answer) (c .before .before .before .before .before .before .before .before .before .before .before .before .before .r .given .1) .1), c .before .before .before .before .before .before .before .before .before .before .before .if1 .left)) (c .before .before .before .w .given .0 .0) (c .colours-before .result) (sym (c .before .before .before .before .before .weigh .ensures) ∙ c .before .before .before .w .given .1) (c .colours-before .ensures)
 
 pub event-number-spec : {M : Type 1} → statement M
 event-number-spec =
