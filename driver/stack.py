@@ -19,9 +19,9 @@ RED_ZONE = 128  # what a function may use below its stack pointer, by the conven
 # Functions of the C library, which are counted with their return address alone: their frames are the platform's.
 OUTSIDE = {"memcpy", "memset"}
 
-# How many frames of a function that calls itself may stand at once: one for each precondition that it goes down and one at the end.
-# A table that is not refused has at most 256 preconditions in an event.
-FRAMES = {"decided::choose": 257, "events::picked": 257}
+# How many frames of a function that calls itself may stand at once: one for each persistent precondition that it goes down and one at
+# the end. A table that is not refused has at most 16 of them in an event.
+FRAMES = {"decided::choose_down": 17}
 
 LABEL = re.compile(r"[0-9a-f]+ <(.+)>:$")
 CODE = re.compile(r" *([0-9a-f]+):\t(.+?) *(?:#.*)?$")

@@ -5,7 +5,7 @@ use native.Mathlib.Omega.{arith}
 use native.Mathlib.Decide.{decLe}
 use native.Mathlib.Nat.{zero-mul, suc-mul, mul-one, one-mul, mul-comm, mul-assoc, min-eq-left, min-eq-right}
 use mathlib.Core.Path.{_≡_, refl, sym, ap, _∙_}
-use mathlib.Core.List.{List, [], _∷_, map}
+use mathlib.Core.List.{List, [], _∷_}
 use mathlib.Core.Bool.{Bool, true, false, _||_, cond}
 use lib.Dec.{T, eqb}
 use lib.ListN.{length, getD, take, drop, length-drop, drop-of-length-le}
@@ -32,18 +32,8 @@ capped-carried : (a b c : ℕ) → capped (capped (a * b) * c) ≡ capped (a * (
 capped-carried a b c = rw (mul-comm (capped (a * b)) c, capped-mul c (a * b), mul-comm c (a * b), mul-assoc a b c)
 
 -- the part of a list from a place on, as a lent part has it
-pub part-from : (xs : List ℕ) (k : ℕ) → take (length xs - k) (drop k xs) ≡ drop k xs
+part-from : (xs : List ℕ) (k : ℕ) → take (length xs - k) (drop k xs) ≡ drop k xs
 part-from xs k = take-all (length xs - k) (drop k xs) (simp length-drop (omega arith))
-
-pub part-two : (xs : List ℕ) → take (length xs - 2) (drop 2 xs) ≡ drop 2 xs
-part-two xs = part-from xs 2
-
--- one step down a list
-pub words-first : (pre : List ℕ) → 2 ≤ length pre → words pre ≡ wordAt pre 0 ∷ words (drop 2 pre)
-words-first pre h = words-next pre 0 (omega arith)
-
-pub words-short : (pre : List ℕ) → length pre < 2 → words pre ≡ []
-words-short pre h = words-end pre 0 (omega arith)
 
 -- ---- the first number that passes a test, searched from place i on
 
@@ -75,38 +65,58 @@ front t (a ∷ b ∷ r) = go (t (a + 256 * b)) refl (front t r)
         let z : 2 * suc (index t (words r)) ≡ suc (suc (2 * index t (words r))) = omega arith in
         rw z (record { within = omega (arith, f .within); kept = rw e (f .kept); passes = λ h. rw add-one (rw add-one at (f .passes (omega arith))) })
 
+module _ (t : ℕ → Bool) (l : List ℕ) (i : ℕ) (e : i ≡ 2 * index t (words l)) where
+  at-front : Front t l i
+  at-front = rw e (front t l)
+
+  pub first-within : i ≤ length l
+  first-within = at-front .within
+
+  pub first-none : length l - i < 2 → keep t (words l) ≡ []
+  first-none h = at-front .kept ∙ rw (words-end l i (omega arith))
+
+  pub first-more : 2 ≤ length l - i → (b : ℕ) → b ≡ wordAt l i → keep t (words l) ≡ b ∷ keep t (words (drop (i + 2) l))
+  first-more h b z =
+      let p : t b ≡ true = rw z (at-front .passes (omega arith)) in
+      at-front .kept ∙ rw (words-next l i (omega arith), ← z, p)
+
+-- ---- the last bytes of a list, so many
+
+pub ending-all : (pre : List ℕ) → ending (length pre) pre ≡ pre
+ending-all pre = let z : length pre - length pre ≡ 0 = omega arith in rw z
+
+module _ (pre : List ℕ) (left : ℕ) (h : left ≤ length pre) where
+  pub ending-size : length (ending left pre) ≡ left
+  ending-size = simp length-drop (omega arith)
+
+  pub ending-lent : take (length pre - (length pre - left)) (drop (length pre - left) pre) ≡ ending left pre
+  ending-lent = part-from pre (length pre - left)
+
+  pub ending-after : (i : ℕ) → 2 ≤ left - i → drop (i + 2) (ending left pre) ≡ ending (left - i - 2) pre
+  ending-after i g =
+      let w : length pre - (left - i - 2) ≡ length pre - left + (i + 2) = omega arith in
+      rw w (drop-drop (i + 2) (length pre - left) pre)
+
 -- ---- the product down the last bytes of a list, whose first persistent condition stands i bytes on
 
 module _ (bytes markers pre : List ℕ) (left i : ℕ) (h : left ≤ length pre) (e : i ≡ 2 * index (flaggedIn bytes) (words (take (length pre - (length pre - left)) (drop (length pre - left) pre)))) where
-  size : length (ending left pre) ≡ left
-  size = simp length-drop (omega arith)
-
-  lent : (take (length pre - (length pre - left)) (drop (length pre - left) pre)) ≡ ending left pre
-  lent = part-from pre (length pre - left)
-
-  at-front : Front (flaggedIn bytes) (ending left pre) i
-  at-front = rw (e, lent) (front (flaggedIn bytes) (ending left pre))
+  found : i ≡ 2 * index (flaggedIn bytes) (words (ending left pre))
+  found = rw (ending-lent pre left h) at e
 
   pub front-within : i ≤ left
-  front-within = rw size at (at-front .within)
-
-  -- ordinary conditions at the front add no radix
-  front-radices : radicesIn bytes markers (words (ending left pre)) ≡ radicesIn bytes markers (words (drop i (ending left pre)))
-  front-radices = ap (map (λ b. getD markers b 0)) (at-front .kept)
+  front-within = rw (ending-size pre left h) at (first-within (flaggedIn bytes) (ending left pre) i found)
 
   pub product-none : left - i < 2 → (count : ℕ) → count ≤ 65536 → count ≡ capped (count * product (radicesIn bytes markers (words (ending left pre))))
   unfolding product
-  product-none s count le = rw (front-radices, words-end (ending left pre) i (rw size (omega arith)), mul-one count, min-eq-left le)
+  product-none s count le =
+      rw (first-none (flaggedIn bytes) (ending left pre) i found (rw (ending-size pre left h) s), mul-one count, min-eq-left le)
 
   product-more : 2 ≤ left - i → (b : ℕ) → b ≡ wordAt (take (length pre - (length pre - left)) (drop (length pre - left) pre)) i
       → product (radicesIn bytes markers (words (ending left pre))) ≡ getD markers b 0 * product (radicesIn bytes markers (words (ending (left - i - 2) pre)))
   unfolding product
   product-more s b z =
-      let l : 1 < length (ending left pre) - i = rw size (omega arith) in
-      let y : b ≡ wordAt (ending left pre) i = rw lent at z in
-      let p : flaggedIn bytes b ≡ true = rw y (at-front .passes l) in
-      let w : length pre - (left - i - 2) ≡ length pre - left + (i + 2) = omega arith in
-      rw (front-radices, words-next (ending left pre) i l, ← y, p, w, ← drop-drop (i + 2) (length pre - left) pre)
+      rw
+      (first-more (flaggedIn bytes) (ending left pre) i found (rw (ending-size pre left h) s) b (rw (ending-lent pre left h) at z), ending-after pre left h i s)
 
   -- the count times the first number of markers is carried down the rest of the list
   pub product-carried : 2 ≤ left - i → (b : ℕ) → b ≡ wordAt (take (length pre - (length pre - left)) (drop (length pre - left) pre)) i → (count n p r : ℕ) → n ≡ getD markers b 0 → p ≡ capped (count * n)
@@ -115,9 +125,7 @@ module _ (bytes markers pre : List ℕ) (left i : ℕ) (h : left ≤ length pre)
 
 -- a count of one that is carried down the whole list leaves the product
 pub product-whole : (bytes markers pre : List ℕ) {r : ℕ} → r ≡ capped (1 * product (radicesIn bytes markers (words (ending (length pre) pre)))) → r ≡ capped (product (radicesIn bytes markers (words pre)))
-product-whole bytes markers pre t =
-    let z : length pre - length pre ≡ 0 = omega arith in
-    rw (z, one-mul (product (radicesIn bytes markers (words pre)))) at t
+product-whole bytes markers pre t = rw (ending-all pre, one-mul (product (radicesIn bytes markers (words pre)))) at t
 
 -- ---- no condition is persistent
 

@@ -28,7 +28,7 @@ fn capped_product(a: u32, b: u32) -> u32
 }
 
 // Where the first persistent condition of a list stands, in bytes; past the last where there is none.
-fn first_persistent<'a>(flags: &'a [u8], list: &'a [u8]) -> usize
+pub fn first_persistent<'a>(flags: &'a [u8], list: &'a [u8]) -> usize
     ensures { λ r. ⌜ r ≡ 2 * index (flaggedIn (now (flags .entry))) (words (now (list .entry))) ⌝ }
 {
     let mut i: usize = 0;

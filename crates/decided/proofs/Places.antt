@@ -1,33 +1,29 @@
 -- A marker kept by its place and its event, and a colour laid out by condition one persistent precondition at a time.
-use Prim.Native.Nat.{ℕ, zero, suc, _-_, _/_, _%_, _≤_, _<_}
+use Prim.Native.Nat.{ℕ, zero, suc, _*_, _-_, _/_, _%_, _≤_, _<_}
 use native.Mathlib.Omega.{arith}
 use native.Mathlib.Numerals.{sub-one}
 use mathlib.Core.Path.{_≡_, refl, sym, ap, ap₂, _∙_, subst}
 use mathlib.Core.List.{List, _∷_, map}
 use mathlib.Core.Bool.{Bool, true, false, _||_}
 use lib.Dec.{T, eqb, leb}
-use lib.ListN.{length, getD, set, length-set, length-map}
+use lib.ListN.{length, getD, take, drop, set, length-set, length-map}
 use lib.Seq.{getD-set-same, getD-set-other}
 use borrow.Author.Tests.{eqb-true, eqb-false}
-use Rattle.lists.specs.Lists.{mem, ascending-from, ascending}
+use Rattle.lists.specs.Lists.{mem, index, keep, ascending-from}
 use Rattle.lists.proofs.Bools.{is-false, and-right}
 use Rattle.lists.proofs.Members.{mem-in}
 use Rattle.lists.proofs.Distinct.{ascending-least, ascending-lower}
 use Rattle.lists.proofs.Places.{at-some, at-getD}
 use Rattle.lists.proofs.Positions.{at-map}
 use Rattle.words.specs.Words.{wordAt, words}
+use Rattle.records.specs.Records.{flags}
 use Rattle.model.specs.Net.{Net}
 use Rattle.model.specs.Runs.{Marker, atStart, byEvent}
 use Rattle.model.specs.Unfolding.{markers}
-use Rattle.model.specs.Numbering.{digits}
 use Rattle.table.specs.Decoded.{netOf}
 use Rattle.tally.specs.Having.{having}
-use Rattle.colours.specs.Colours.{flagged}
-use Rattle.colours.proofs.Products.{words-short}
-use Rattle.events.specs.declared.Colour.{Colour}
-use Rattle.events.specs.Colours.{noColour, push}
-use Rattle.events.specs.Numbers.{Picking}
-use Rattle.events.proofs.Picks.{after, split, first-inside, reads-more, reads-past, choices-past, digit-in, picking-more, picking-past, digits-more}
+use Rattle.colours.specs.Colours.{flaggedIn, ending}
+use Rattle.events.proofs.Picks.{reads-none, reads-more, first-low, digit-in, picking-more, digits-more}
 use Rattle.decided.specs.Kept.{markerAt, keptMarker, Kept, Keeping, Choosing, Chosen}
 
 -- ---- one marker kept
@@ -77,47 +73,45 @@ module _ (n : Net) (places kept : List ℕ) (k : Kept n places kept) (b place : 
       go zero z h e = absurd (z refl)
       go (suc p) z h e = marker-next n b p h ∙ ap byEvent (sym (e ∙ rw sub-one))
 
--- ---- a colour laid out
+-- ---- a colour laid out down the last bytes of a list, whose first persistent condition stands i bytes on, by the conditions' bytes
 
-uncoloured : (s ms : List ℕ) (events : ℕ) (c : Colour) (l : List ℕ) (weight rest : ℕ) → Picking s ms events c l weight rest → Picking s ms events noColour l weight rest
-uncoloured s ms events c l weight rest p =
-    record { within = p .within; inside = p .inside; whole = p .whole; limit = p .limit; below = p .below; room = omega (arith, p .room) }
+module _ {s ms : List ℕ} {events : ℕ} (pre : List ℕ) {left weight rest : ℕ} {places kept : List ℕ} (h : left ≤ length pre) (q : Choosing s ms events (words (ending left pre)) weight rest places kept)
+    {bytes : List ℕ} (f : bytes ≡ flags s) {i : ℕ} (e : i ≡ 2 * index (flaggedIn bytes) (words (take (length pre - (length pre - left)) (drop (length pre - left) pre)))) where
+  pub chosen-none : left - i < 2 → Chosen s (words (ending left pre)) rest places places kept
+  chosen-none g = record { held = q .held; colour = rw (reads-none pre h (q .picking) f e g) refl; others = λ x m. refl }
 
-module _ (s : List ℕ) (rest : ℕ) (places kept : List ℕ) where
-  pub chosen-none : (pre : List ℕ) → length pre < 2 → Kept (netOf s) places kept → Chosen s (words pre) rest places places kept
-  chosen-none pre h k = record { held = k; colour = rw (words-short pre h) refl; others = λ b m. refl }
+  module _ (g : 2 ≤ left - i) {b : ℕ} (z : b ≡ wordAt (take (length pre - (length pre - left)) (drop (length pre - left) pre)) i) where
+    abbrev later : List ℕ
+    later = keep (netOf s .persistent) (words (ending (left - i - 2) pre))
 
-module _ (s ms : List ℕ) (events : ℕ) (pre : List ℕ) (weight rest : ℕ) (places kept : List ℕ) (q : Choosing s ms events (words pre) weight rest places kept)
-    (h : 2 ≤ length pre) (b : ℕ) (e : b ≡ wordAt pre 0) where
-  pub low : b < 256
-  low = first-inside pre h b e (q .picking .inside)
-
-  parted : T (ascending-from 0 (b ∷ after pre))
-  parted = rw (split pre h b e) at (q .ascends)
-
-  later : T (ascending-from (suc b) (after pre))
-  later = and-right (leb 0 b) (ascending-from (suc b) (after pre)) parted
-
-  ascends : T (ascending (after pre))
-  ascends = ascending-lower 0 (suc b) (omega arith) (after pre) later
-
-  apart : mem b (after pre) ≡ false
-  apart = is-false (mem b (after pre)) (λ t. let l = ascending-least (suc b) (after pre) later b (mem-in b (after pre) t) in omega arith)
-
-  -- a condition that is in neither
-  outside : (x : ℕ) → mem x (words pre) ≡ false → (eqb x b ≡ false) × (mem x (after pre) ≡ false)
-  outside x m = go (eqb x b) (mem x (after pre)) (sym (ap (mem x) (split pre h b e)) ∙ m)
-    where
-      go : (a c : Bool) → (a || c) ≡ false → (a ≡ false) × (c ≡ false)
-      go true c z = absurd (subst T z tt)
-      go false c z = (refl, z)
-
-  module _ (f : flagged s b ≡ true) where
     abbrev below : ℕ
     below = weight / getD ms b 0
 
     abbrev place : ℕ
     place = rest / below
+
+    split : keep (netOf s .persistent) (words (ending left pre)) ≡ b ∷ later
+    split = reads-more pre h (q .picking) f e g z
+
+    low : b < 256
+    low = first-low pre h (q .picking) f e g z
+
+    parted : T (ascending-from 0 (b ∷ later))
+    parted = rw split at (q .ascends)
+
+    climbs : T (ascending-from (suc b) later)
+    climbs = and-right (leb 0 b) (ascending-from (suc b) later) parted
+
+    apart : mem b later ≡ false
+    apart = is-false (mem b later) (λ t. let l = ascending-least (suc b) later climbs b (mem-in b later t) in omega arith)
+
+    -- a condition that is in neither
+    outside : (x : ℕ) → mem x (keep (netOf s .persistent) (words (ending left pre))) ≡ false → (eqb x b ≡ false) × (mem x later ≡ false)
+    outside x m = go (eqb x b) (mem x later) (sym (ap (mem x) split) ∙ m)
+      where
+        go : (a c : Bool) → (a || c) ≡ false → (a ≡ false) × (c ≡ false)
+        go true c z = absurd (subst T z tt)
+        go false c z = (refl, z)
 
     pub keeping : Keeping s events b place places kept
     keeping =
@@ -126,42 +120,23 @@ module _ (s ms : List ℕ) (events : ℕ) (pre : List ℕ) (weight rest : ℕ) (
           all = q .picking .within .all;
           few = omega (arith, q .picking .within .all);
           low = low;
-          inside = digit-in s ms events noColour pre weight rest (q .picking) h b e f;
+          inside = digit-in pre h (q .picking) f e g z;
           held = q .held;
         }
 
-    pub choosing-more : (ps ks : List ℕ) → Kept (netOf s) ps ks → Choosing s ms events (after pre) below (rest % below) ps ks
-    choosing-more ps ks k =
-        record {
-          picking = uncoloured s ms events (push noColour Rattle.refusal.specs.declared.Marker.the-variants.Start) (after pre) below (rest % below) (picking-more s ms events noColour pre weight rest (q .picking) h b e f Rattle.refusal.specs.declared.Marker.the-variants.Start);
-          ascends = ascends;
-          held = k;
-        }
+    pub choosing-more : {ps ks : List ℕ} → Kept (netOf s) ps ks → Choosing s ms events (words (ending (left - i - 2) pre)) below (rest % below) ps ks
+    choosing-more k = record { picking = picking-more pre h (q .picking) f e g z; ascends = ascending-lower 0 (suc b) (omega arith) later climbs; held = k }
 
-    pub chosen-more : (ps new ks : List ℕ) → ps ≡ set places b place → Chosen s (after pre) (rest % below) ps new ks → Chosen s (words pre) rest places new ks
-    chosen-more ps new ks z c =
-        let here : getD new b 0 ≡ place = c .others b apart ∙ ap (λ (l : List ℕ). getD l b 0) z ∙ getD-set-same places b place 0 (omega (arith, q .held .size, low)) in
+    pub chosen-more : {ps new ks : List ℕ} → ps ≡ set places b place → Chosen s (words (ending (left - i - 2) pre)) (rest % below) ps new ks → Chosen s (words (ending left pre)) rest places new ks
+    chosen-more {ps} {new} {ks} w c =
+        let here : getD new b 0 ≡ place = c .others b apart ∙ ap (λ (l : List ℕ). getD l b 0) w ∙ getD-set-same places b place 0 (omega (arith, q .held .size, low)) in
         let first : markerAt (netOf s) new b ≡ getD (markers (netOf s) b) place atStart = ap (λ (p : ℕ). getD (markers (netOf s) b) p atStart) here in
         record {
           held = c .held;
           colour =
-              ap (map (markerAt (netOf s) new)) (reads-more s ms events (q .picking .within) pre h b e f)
-              ∙ ap₂ {C = List Marker} (λ x y. x ∷ y) first (c .colour) ∙ sym (digits-more s ms events noColour pre weight rest (q .picking) h b e f);
+              ap (map (markerAt (netOf s) new)) split
+              ∙ ap₂ {C = List Marker} (λ x y. x ∷ y) first (c .colour) ∙ sym (digits-more pre h (q .picking) f e g z);
           others = λ x m.
               let o = outside x m in
-              c .others x (o .1) ∙ ap (λ (l : List ℕ). getD l x 0) z ∙ getD-set-other places b x place 0 (eqb-false x b (o .0));
-        }
-
-  module _ (f : flagged s b ≡ false) where
-    pub choosing-past : Choosing s ms events (after pre) weight rest places kept
-    choosing-past = record { picking = picking-past s ms events noColour pre weight rest (q .picking) h b e f; ascends = ascends; held = q .held }
-
-    pub chosen-past : (new ks : List ℕ) → Chosen s (after pre) rest places new ks → Chosen s (words pre) rest places new ks
-    chosen-past new ks c =
-        record {
-          held = c .held;
-          colour =
-              ap (map (markerAt (netOf s) new)) (reads-past s ms events (q .picking .within) pre h b e f)
-              ∙ c .colour ∙ sym (ap (λ (l : List (List Marker)). digits l rest) (choices-past s ms events (q .picking .within) pre h b e f));
-          others = λ x m. c .others x (outside x m .1);
+              c .others x (o .1) ∙ ap (λ (l : List ℕ). getD l x 0) w ∙ getD-set-other places b x place 0 (eqb-false x b (o .0));
         }

@@ -16,7 +16,6 @@ use Rattle.table.specs.Decoded.{netOf}
 use Rattle.table.specs.Walk.{offsetOf}
 use Rattle.colours.specs.Colours.{flagged}
 use Rattle.tally.specs.Having.{Tally}
-use Rattle.events.specs.Colours.{noColour}
 use Rattle.unfolding.specs.Numbers.{choicesOf}
 use Rattle.events.specs.Numbers.{Picking}
 
@@ -47,15 +46,15 @@ pub record Keeping (s : List ℕ) (events b place : ℕ) (places kept : List ℕ
 
 -- What must hold to lay the colour with a number out by condition.
 pub record Choosing (s ms : List ℕ) (events : ℕ) (l : List ℕ) (weight rest : ℕ) (places kept : List ℕ) : Type 0 where
-  pub picking : Picking s ms events noColour l weight rest
-  pub ascends : T (ascending l)
+  pub picking : Picking s ms events l weight rest
+  pub ascends : T (ascending (keep (netOf s .persistent) l))
   pub held : Kept (netOf s) places kept
 
--- The colour with a number stands by condition, and the places of all other conditions are as they were.
+-- The colour with a number stands by condition, and the places of all but the persistent ones of the list are as they were.
 pub record Chosen (s l : List ℕ) (rest : ℕ) (before places kept : List ℕ) : Type 0 where
   pub held : Kept (netOf s) places kept
   pub colour : map (markerAt (netOf s) places) (keep (netOf s .persistent) l) ≡ digits (choicesOf s l) rest
-  pub others : (b : ℕ) → mem b l ≡ false → getD places b 0 ≡ getD before b 0
+  pub others : (b : ℕ) → mem b (keep (netOf s .persistent) l) ≡ false → getD places b 0 ≡ getD before b 0
 
 -- ---- the tests over the numbers
 

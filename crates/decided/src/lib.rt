@@ -4,12 +4,14 @@ use step::Cause;
 use step::Failing;
 use step::Step;
 ghost use mathlib.Core.Path.{_≡_};
-ghost use lib.ListN.{set};
+ghost use Prim.Native.Nat.{_≤_};
+ghost use lib.ListN.{length, set};
 ghost use Rattle.lists.specs.Lists.{failing};
 ghost use Rattle.words.specs.Words.{words};
 ghost use Rattle.model.specs.Lent.{marking};
 ghost use Rattle.table.specs.Decoded.{netOf};
 ghost use Rattle.tally.specs.Having.{Listed, Members};
+ghost use Rattle.colours.specs.Colours.{ending};
 ghost use Rattle.step.specs.Steps.{failingOf, stepOf};
 ghost use Rattle.decided.specs.Decided.{stoppedBy};
 ghost use Rattle.decided.specs.Kept.{markerAt, Kept, Keeping, Choosing, Chosen, markedAt, readyAt, backAt, excused, clearAt, Deciding};
@@ -31,7 +33,47 @@ fn keep(table: &[u8], events: usize, b: usize, place: u32, places: &mut [u32], k
     kept[b] = tally::nth(table, events, true, b, (place - 1) as usize) as u32;
 }
 
-// The colour with a number laid out by condition: a recursion down the persistent preconditions.
+// The colour with a number laid out by condition: a recursion down the persistent preconditions, of which an event has at most sixteen.
+fn choose_down<'a>(
+    table: &&'a [u8],
+    events: usize,
+    markers: &&'a [u32],
+    pre: &&'a [u8],
+    left: usize,
+    weight: u32,
+    rest: u32,
+    places: &mut [u32],
+    kept: &mut [u32],
+)
+    requires { ⌜ left ≤ length (now (now pre)) ⌝ }
+    requires { ⌜ Choosing (now (now table)) (now (now markers)) events (words (ending left (now (now pre)))) weight rest (now places) (now kept) ⌝ }
+    ensures { λ _. ⌜ Chosen (now (now (table .entry))) (words (ending left (now (now (pre .entry))))) rest (now (places .entry)) (now (places .exit)) (now (kept .exit)) ⌝ }
+{
+    let bytes = *table;
+    let list = *pre;
+    let later = &list[list.len() - left..];
+    let i = colours::first_persistent(records::flags(bytes), later);
+    if left - i < 2 {
+        return;
+    }
+    let b = words::word_within(later, i) as usize;
+    let numbers = *markers;
+    let below = weight / tally::number(numbers, b);
+    keep(bytes, events, b, rest / below, places, kept);
+    choose_down(
+        table,
+        events,
+        markers,
+        pre,
+        left - i - 2,
+        below,
+        rest % below,
+        places,
+        kept,
+    );
+}
+
+// The colour with a number among those that a list of preconditions leaves, laid out by condition.
 pub fn choose<'a>(
     table: &'a [u8],
     events: usize,
@@ -45,19 +87,18 @@ pub fn choose<'a>(
     requires { ⌜ Choosing (now table) (now markers) events (words (now pre)) weight rest (now places) (now kept) ⌝ }
     ensures { λ _. ⌜ Chosen (now (table .entry)) (words (now (pre .entry))) rest (now (places .entry)) (now (places .exit)) (now (kept .exit)) ⌝ }
 {
-    if pre.len() < 2 {
-        return;
-    }
-    let b = words::word(pre, 0) as usize;
-    let later = &pre[2..];
-    if colours::is_persistent(table, b) {
-        let below = weight / tally::number(markers, b);
-        keep(table, events, b, rest / below, places, kept);
-        let left = rest % below;
-        choose(table, events, markers, later, below, left, places, kept);
-    } else {
-        choose(table, events, markers, later, weight, rest, places, kept);
-    }
+    let left = pre.len();
+    choose_down(
+        &table,
+        events,
+        &markers,
+        &pre,
+        left,
+        weight,
+        rest,
+        places,
+        kept,
+    );
 }
 
 // Whether the kept marker of condition b has marked it: the start, or an event that has occurred.

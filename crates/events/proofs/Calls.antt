@@ -2,14 +2,16 @@
 use Prim.Native.Nat.{ℕ, _+_, _≤_, _<_}
 use native.Mathlib.Omega.{arith}
 use mathlib.Core.Path.{_≡_, sym, ap, _∙_}
-use mathlib.Core.List.{List, [], _∷_}
+use mathlib.Core.List.{List}
 use mathlib.Core.Bool.{true, false}
 use lib.Dec.{T, ltb}
-use lib.ListN.{length}
+use lib.ListN.{length, length-map}
 use Rattle.lists.specs.Lists.{mem, sum, keep}
+use Rattle.lists.proofs.Bools.{and-left}
+use Rattle.lists.proofs.Members.{mem-keep}
 use Rattle.words.specs.Words.{words}
 use Rattle.model.specs.Runs.{Marker}
-use Rattle.model.specs.Unfolding.{UnfoldedEvent, reads, origin, basic}
+use Rattle.model.specs.Unfolding.{UnfoldedEvent, markers, reads, origin, basic}
 use Rattle.model.specs.Numbering.{ways, digits, size, eventCount}
 use Rattle.refusal.specs.declared.Judged.{Judged}
 use Rattle.refusal.specs.declared.Judged.the-variants.{Fine, Refused}
@@ -22,13 +24,13 @@ use Rattle.tally.proofs.Events.{list-read, list-inside}
 use Rattle.layout.specs.Unfolds.{unfoldingOf}
 use Rattle.events.specs.declared.Colour.{Colour}
 use Rattle.events.specs.declared.EventOrigin.{EventOrigin}
-use Rattle.unfolding.specs.Markers.{shown}
-use Rattle.events.specs.Colours.{noColour, push, pushAll}
+use Rattle.events.specs.Colours.{noColour, pushAll}
 use Rattle.unfolding.specs.Numbers.{Within, Owner, choicesOf}
 use Rattle.events.specs.Numbers.{Picking}
 use Rattle.events.specs.Answers.{noOrigin, originIf, originJudged, originOf}
 use Rattle.unfolding.proofs.Owners.{before-few}
 use Rattle.unfolding.proofs.Numbered.{choicesAt, events-basic, origin-is, origin-low}
+use Rattle.events.proofs.Codes.{count-all}
 use borrow.Author.Tests.{le-ltb}
 
 -- ---- an event of a table that is laid out
@@ -48,27 +50,23 @@ module _ (s ms : List ℕ) (events : ℕ) (w : Within s ms events) (e at : ℕ) 
   unfolding size
   size-is = ap (λ (m : List (List Marker)). ways m) (sym choices-are)
 
-  few-reads : length (keep (netOf s .persistent) (words l)) ≤ 16
+  pub room-first : length (choicesOf s (words l)) ≤ 16
   unfolding reads
-  few-reads = rw list-is (w .marked .limits .few-persistent e h)
+  room-first =
+      let few : length (keep (netOf s .persistent) (words l)) ≤ 16 = rw list-is (w .marked .limits .few-persistent e h) in
+      omega (arith, length-map (keep (netOf s .persistent) (words l)) (markers (netOf s)))
 
-  pub picking-first : (j rest weight : ℕ) → Owner s j e at rest weight → Picking s ms events noColour (words l) weight rest
+  pub picking-first : (j rest weight : ℕ) → Owner s j e at rest weight → Picking s ms events (words l) weight rest
   picking-first j rest weight o =
       record {
         within = w;
-        inside = inside;
+        inside = λ b t. inside b (and-left (mem b (words l)) (netOf s .persistent b) (rw mem-keep at t));
         whole = o .whole ∙ size-is;
         limit = omega (arith, o .whole, before-few s ms events w e h);
         below = o .below;
-        room = omega (arith, few-reads);
       }
 
 -- ---- the event and markers behind a number
-
-pub count-all : (c : Colour) (ms : List Marker) → pushAll c ms .count ≡ c .count + length ms
-unfolding pushAll
-count-all c [] = omega arith
-count-all c (m ∷ ms) = omega (arith, count-all (push c (shown m)) ms)
 
 module _ (s : List ℕ) (j : ℕ) where
   pub origin-refused : {r : Judged} → r ≡ originJudged s j → {x : Rattle.refusal.specs.declared.Refusal.Refusal} → r ≡ Refused x → noOrigin r ≡ originOf s j

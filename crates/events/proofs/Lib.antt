@@ -1,2 +1,3 @@
 pub mod Picks
+pub mod Codes
 pub mod Calls

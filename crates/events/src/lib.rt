@@ -5,12 +5,14 @@ use refusal::TableEvent;
 use refusal::UnfoldedEvent;
 use unfolding::Found;
 ghost use mathlib.Core.Path.{_≡_};
-ghost use Prim.Native.Nat.{_<_};
+ghost use Prim.Native.Nat.{_+_, _≤_, _<_};
+ghost use lib.ListN.{length};
 ghost use Rattle.words.specs.Words.{words};
 ghost use Rattle.model.specs.Numbering.{digits};
+ghost use Rattle.colours.specs.Colours.{ending};
 ghost use Rattle.unfolding.specs.Numbers.{choicesOf};
 ghost use Rattle.events.specs.Colours.{noColour, push, pushAll};
-ghost use Rattle.events.specs.Numbers.{Picking};
+ghost use Rattle.events.specs.Numbers.{Picking, Room, toldBy};
 ghost use Rattle.events.specs.Answers.{noOrigin, originOf};
 
 // One marker of a colour.
@@ -51,31 +53,90 @@ fn pushed(c: Colour, m: Marker) -> Colour
     d
 }
 
-// The markers of a colour by its number, put behind those of c: a recursion down the persistent preconditions.
+// The markers of a colour by its number, written as numbers behind those before: a recursion down the persistent preconditions, with the
+// lists behind references so that all calls can use one frame. How many there are then.
 fn picked<'a>(
-    c: Colour,
+    codes: &mut [u16; 16],
+    count: usize,
+    table: &&'a [u8],
+    events: usize,
+    markers: &[u32; 256],
+    pre: &&'a [u8],
+    left: usize,
+    weight: u32,
+    rest: u32,
+) -> usize
+    requires { ⌜ left ≤ length (now (now pre)) ⌝ }
+    requires { ⌜ Picking (now (now table)) (now markers) events (words (ending left (now (now pre)))) weight rest ⌝ }
+    requires { ⌜ Room (now (now table)) (now codes) count (words (ending left (now (now pre)))) ⌝ }
+    ensures counted { λ r. ⌜ (length (now (codes .exit)) ≡ 16) × (r ≡ count + length (choicesOf (now (now (table .entry))) (words (ending left (now (now (pre .entry))))))) ⌝ }
+    ensures coloured { λ r. ⌜ toldBy (now (codes .exit)) r ≡ pushAll (toldBy (now (codes .entry)) count) (digits (choicesOf (now (now (table .entry))) (words (ending left (now (now (pre .entry)))))) rest) ⌝ }
+{
+    let bytes = *table;
+    let list = *pre;
+    let later = &list[list.len() - left..];
+    let i = colours::first_persistent(records::flags(bytes), later);
+    if left - i < 2 {
+        return count;
+    }
+    let b = words::word_within(later, i) as usize;
+    let below = weight / tally::number(markers, b);
+    codes[count] = unfolding::marker_code(bytes, events, b, (rest / below) as usize);
+    picked(
+        codes,
+        count + 1,
+        table,
+        events,
+        markers,
+        pre,
+        left - i - 2,
+        below,
+        rest % below,
+    )
+}
+
+// The colour that so many numbers tell.
+fn coloured(codes: &[u16], count: usize) -> Colour
+    requires { ⌜ length (now codes) ≡ 16 ⌝ }
+    requires { ⌜ count ≤ 16 ⌝ }
+    ensures { λ r. ⌜ r ≡ toldBy (now (codes .entry)) count ⌝ }
+{
+    let mut c = no_colour();
+    let mut i: usize = 0;
+    while i < count {
+        c = pushed(c, unfolding::marker_of(codes[i]));
+        i = i + 1;
+    }
+    c
+}
+
+// The colour with a number among those that a list of preconditions leaves.
+fn colour_at<'a>(
     table: &'a [u8],
     events: usize,
-    markers: &'a [u32],
+    markers: &[u32; 256],
     pre: &'a [u8],
     weight: u32,
     rest: u32,
 ) -> Colour
-    requires { ⌜ Picking (now table) (now markers) events c (words (now pre)) weight rest ⌝ }
-    ensures { λ r. ⌜ r ≡ pushAll c (digits (choicesOf (now (table .entry)) (words (now (pre .entry)))) rest) ⌝ }
+    requires { ⌜ Picking (now table) (now markers) events (words (now pre)) weight rest ⌝ }
+    requires { ⌜ length (choicesOf (now table) (words (now pre))) ≤ 16 ⌝ }
+    ensures { λ r. ⌜ r ≡ pushAll noColour (digits (choicesOf (now (table .entry)) (words (now (pre .entry)))) rest) ⌝ }
 {
-    if pre.len() < 2 {
-        return c;
-    }
-    let b = words::word(pre, 0) as usize;
-    if colours::is_persistent(table, b) {
-        let below = weight / tally::number(markers, b);
-        let m = unfolding::marker_at(table, events, b, (rest / below) as usize);
-        let next = pushed(c, m);
-        picked(next, table, events, markers, &pre[2..], below, rest % below)
-    } else {
-        picked(c, table, events, markers, &pre[2..], weight, rest)
-    }
+    let mut codes = [0u16; 16];
+    let left = pre.len();
+    let count = picked(
+        &mut codes,
+        0,
+        &table,
+        events,
+        markers,
+        &pre,
+        left,
+        weight,
+        rest,
+    );
+    coloured(&codes, count)
 }
 
 // No event and no markers behind a number, with why.
@@ -105,8 +166,7 @@ pub fn event_origin(table: &[u8], j: UnfoldedEvent) -> EventOrigin
     let Found::At(e, at, rest, weight) = f else {
         return no_origin(refusal::refused(10, 0));
     };
-    let colour = picked(
-        no_colour(),
+    let colour = colour_at(
         table,
         events,
         &markers,

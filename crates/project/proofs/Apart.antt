@@ -8,6 +8,9 @@ use lib.Dec.{T}
 use lib.ListN.{length, getD, take}
 use lib.Seq.{length-take-le, getD-take}
 use Rattle.lists.specs.Lists.{mem, keep, ascending}
+use Rattle.lists.proofs.Bools.{and-left}
+use Rattle.lists.proofs.Members.{mem-keep}
+use Rattle.lists.proofs.Distinct.{ascending-keep}
 use Rattle.words.specs.Words.{words}
 use Rattle.records.specs.Records.{prePart}
 use Rattle.refusal.specs.declared.Judged.the-variants.{Fine}
@@ -18,7 +21,7 @@ use Rattle.model.specs.Numbering.{digits, ways, size, eventCount}
 use Rattle.table.specs.Decoded.{netOf}
 use Rattle.table.proofs.Decoded.{events-are-all}
 use Rattle.table.proofs.Sound.{tabled}
-use Rattle.tally.proofs.Events.{within-limits, list-read, list-ascends, list-inside}
+use Rattle.tally.proofs.Events.{list-read, list-ascends, list-inside}
 use Rattle.layout.proofs.Counts.{sum-part}
 use Rattle.unfolding.specs.Numbers.{choicesOf}
 use Rattle.played.specs.Played.{Indexed}
@@ -57,20 +60,19 @@ module _ (s offsets ms before : List ℕ) (q : Numbered s offsets ms before) whe
 
       pub choosing : (places kept : List ℕ) → Kept n places kept
           → Choosing s ms (length offsets) (words pre) (getD before (e + 1) 0 - getD before e 0) (j - getD before e 0) places kept
-      unfolding size reads eventCount
+      unfolding size eventCount
       choosing places kept held =
           let weight = weight-is n before (q .sizes) j e between in
-          let limits = within-limits s e here in
           record {
             picking = record {
               within = record { marked = q .marked; few = q .few; all = all-events };
-              inside = λ x t. list-inside s e here false x (subst (λ (y : List ℕ). T (mem x y)) pre-is t);
+              inside = λ x t.
+                  list-inside s e here false x (subst (λ (y : List ℕ). T (mem x y)) pre-is (and-left (mem x (words pre)) (n .persistent x) (rw mem-keep at t)));
               whole = weight ∙ sym (ap ways choices-is);
               limit = omega (arith, weight, q .few, sum-part (size n) (n .events) e here);
               below = omega (arith, weight, rest-below n before (q .sizes) j e between);
-              room = omega (arith, ap (λ (y : List ℕ). length (keep (n .persistent) y)) pre-is, limits .few-persistent e here);
             };
-            ascends = subst (λ (y : List ℕ). T (ascending y)) (sym pre-is) (list-ascends s e here false);
+            ascends = ascending-keep (n .persistent) 0 (words pre) (subst (λ (y : List ℕ). T (ascending y)) (sym pre-is) (list-ascends s e here false));
             held = held;
           }
 

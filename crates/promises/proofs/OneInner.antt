@@ -78,8 +78,11 @@ use Rattle.tally.proofs.tally.Reads as tallied
 use Rattle.tally.proofs.nth.Reads as nth-of
 use Rattle.tally.proofs.place.Reads as place-among
 use Rattle.colours.proofs.is_persistent.Reads as is-persistent
+use Rattle.colours.proofs.first_persistent.Reads as first-persistent
 use Rattle.colours.proofs.colours.Reads as colours
 use Rattle.layout.proofs.width.Reads as width
+use Rattle.unfolding.proofs.marker_code.Reads as marker-code
+use Rattle.unfolding.proofs.marker_of.Reads as marker-of
 use Rattle.unfolding.proofs.marker_at.Reads as marker-at
 use Rattle.unfolding.proofs.marker_place.Reads as marker-place
 use Rattle.conditions.specs.Owners.{Owns}
@@ -349,6 +352,9 @@ place-among-one κs a r q x y h g = h ∙ sym g
 pub is-persistent-one : (κs : _) (a : _) (r q : _) (x y : _) → is-persistent.Learnt κs a r x → is-persistent.Learnt κs a q y → r ≡ q
 is-persistent-one κs a r q x y h g = h ∙ sym g
 
+pub first-persistent-one : (κs : _) (a : _) (r q : _) (x y : _) → first-persistent.Learnt κs a r x → first-persistent.Learnt κs a q y → r ≡ q
+first-persistent-one κs a r q x y h g = h ∙ sym g
+
 pub width-one : (κs : _) (a : _) (r q : _) (x y : _) → width.Learnt κs a r x → width.Learnt κs a q y → r ≡ q
 width-one κs a r q x y h g = h ∙ sym g
 
@@ -356,6 +362,12 @@ pub colours-one : (κs : _) (a : _) (r q : _) (x y : _) → colours.Learnt κs a
 colours-one κs a r q x y h g = h ∙ sym g
 
 -- ---- the unfolding
+
+pub marker-code-one : (κs : _) (a : _) (r q : _) (x y : _) → marker-code.Learnt κs a r x → marker-code.Learnt κs a q y → r ≡ q
+marker-code-one κs a r q x y h g = h ∙ sym g
+
+pub marker-of-one : (κs : _) (a : _) (r q : _) (x y : _) → marker-of.Learnt κs a r x → marker-of.Learnt κs a q y → r ≡ q
+marker-of-one κs a r q x y h g = h ∙ sym g
 
 pub marker-at-one : (κs : _) (a : _) (r q : _) (x y : _) → marker-at.Learnt κs a r x → marker-at.Learnt κs a q y → r ≡ q
 marker-at-one κs a r q x y h g = h ∙ sym g
