@@ -7,7 +7,7 @@ use mathlib.Core.Option.{Option, none, some}
 use mathlib.Core.List.{List, [], _∷_}
 use borrow.Author.Tests.{lt-ltb, le-ltb, ltb-true}
 use lib.Dec.{ltb}
-use lib.ListN.{length, getD, drop, set, length-append}
+use lib.ListN.{length, getD, set}
 use Rattle.model.specs.Net.{Net, Stop, stopping, fire}
 use Rattle.model.specs.Lent.{bytes, marking}
 use Rattle.model.specs.Across.{mostUnfolded}

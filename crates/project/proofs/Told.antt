@@ -1,16 +1,15 @@
 -- What the calls answer, from the layout of the table and the replay of the run.
-use Prim.Native.Nat.{ℕ, _≤_, _<_, zero, suc}
+use Prim.Native.Nat.{ℕ}
 use native.Mathlib.Omega.{arith}
 use mathlib.Core.Path.{_≡_, refl, sym, ap, _∙_, subst}
 use mathlib.Core.Bool.{Bool, true, false}
 use mathlib.Core.Option.{Option, none, some}
-use mathlib.Core.List.{List, _++_, [], _∷_}
-use lib.Dec.{leb, T, leb→le, ltb→lt}
-use lib.ListN.{length, getD, drop, length-map}
-use borrow.Author.Tests.{lt-leb, le-leb}
-use Rattle.model.specs.Net.{Net, begin, Marking, fire}
-use Rattle.model.specs.Runs.{opening, replay, runs}
-use Rattle.model.specs.Unfolding.{basic, origin}
+use mathlib.Core.List.{List, _++_}
+use lib.Dec.{leb, leb→le}
+use lib.ListN.{length, getD, drop}
+use Rattle.model.specs.Net.{Net, begin}
+use Rattle.model.specs.Runs.{opening, replay}
+use Rattle.model.specs.Unfolding.{basic}
 use Rattle.model.specs.Numbering.{size}
 use Rattle.model.specs.Across.{ofUnfolding, Refusal, Answer, run, unless, stuck, tooLong, unfoldingRefused, readBack, projecting, project}
 use Rattle.model.proofs.Firing.{runs-event}

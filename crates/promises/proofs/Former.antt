@@ -1,6 +1,6 @@
 -- What the rule of lifting changed from the former one: nothing but refusals with 15, of which none is new.
 use mathlib.Core.Path.{_≡_, refl, sym, _∙_, ap, ap₂}
-use mathlib.Core.Bool.{Bool, true, false, not, _&&_, cond}
+use mathlib.Core.Bool.{Bool, true, false, _&&_, cond}
 use mathlib.Core.Logic.{_⊎_, inl, inr}
 use mathlib.Core.Option.{Option, none, some}
 use mathlib.Core.List.{List, [], _∷_}
@@ -8,11 +8,11 @@ use Prim.Native.Nat.{ℕ, suc, _≤_}
 use native.Mathlib.Omega.{arith}
 use lib.Dec.{T}
 use lib.ListN.{length}
-use Rattle.lists.specs.Lists.{mem, any, _∈_}
+use Rattle.lists.specs.Lists.{mem}
 use Rattle.lists.proofs.Bools.{T-of, is-true, is-false, not-true, and-left, and-right, and-both}
 use Rattle.lists.proofs.Members.{keep-out, map-same}
 use Rattle.lists.proofs.Tests.{any-in}
-use Rattle.model.specs.Net.{Net, begin}
+use Rattle.model.specs.Net.{Net}
 use Rattle.model.specs.Runs.{byEvent, State, opening, step, replay}
 use Rattle.model.specs.Unfolding.{UnfoldedEvent, reads}
 use Rattle.model.specs.Numbering.{number}

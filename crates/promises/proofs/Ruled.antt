@@ -27,7 +27,7 @@ use Rattle.table.specs.Links.{refusedOr}
 use Rattle.table.proofs.Decoded.{events-are-all, conditions-are-all}
 use Rattle.table.proofs.Ruled.{rule-read}
 use Rattle.table.proofs.Sound.{accepted-sound}
-use Rattle.game.specs.Calls.{onMarking, leaves, firingStopped, firingOf, concessionOf, fireOf, firedOf}
+use Rattle.game.specs.Calls.{onMarking, leaves, firingStopped, firingOf, firedOf}
 use Rattle.game.proofs.Marked.{on-then, on-fine}
 use Rattle.promises.specs.Ruled.{ByRule}
 
