@@ -48,6 +48,25 @@ extern "C" {
         out: *mut u16,
         out_length: usize,
     );
+    fn dovetrellis_event_origin(
+        answer: *mut Answer,
+        table: *const u8,
+        table_length: usize,
+        unfolded: u16,
+        markers: *mut u32,
+        markers_length: usize,
+        event: *mut u16,
+        count: *mut u64,
+    );
+    fn dovetrellis_event_number(
+        answer: *mut Answer,
+        table: *const u8,
+        table_length: usize,
+        event: u16,
+        markers: *const u32,
+        markers_length: usize,
+        unfolded: *mut u16,
+    );
     fn dovetrellis_unfolded_pre(
         answer: *mut Answer,
         table: *const u8,
@@ -171,6 +190,36 @@ pub fn lift(table: &[u8], run: &[u16], out: &mut [u16]) -> Answer {
 
 pub fn project(table: &[u8], lifted: &[u16], out: &mut [u16]) -> Answer {
     across(dovetrellis_project, table, lifted, out)
+}
+
+pub fn event_origin(table: &[u8], unfolded: u16, markers: &mut [u32]) -> Answer {
+    let (mut event, mut count) = (0, 0);
+    answer(|to| unsafe {
+        dovetrellis_event_origin(
+            to,
+            table.as_ptr(),
+            table.len(),
+            unfolded,
+            markers.as_mut_ptr(),
+            markers.len(),
+            &mut event,
+            &mut count,
+        )
+    })
+}
+
+pub fn event_number(table: &[u8], event: u16, markers: &[u32], unfolded: &mut u16) -> Answer {
+    answer(|to| unsafe {
+        dovetrellis_event_number(
+            to,
+            table.as_ptr(),
+            table.len(),
+            event,
+            markers.as_ptr(),
+            markers.len(),
+            unfolded,
+        )
+    })
 }
 
 pub fn unfolded_pre(table: &[u8], unfolded: u16, out: &mut [u16]) -> Answer {

@@ -17,6 +17,7 @@ use inputs::{
 use library::Answer;
 use second::calls;
 use second::refusal::Answer as Second;
+use second::unfolding::Marker;
 
 /// A time in a unit that suits it.
 fn time_text(nanoseconds: f64) -> String {
@@ -133,9 +134,48 @@ fn last_lifted(input: &Input) -> u16 {
     lifted(input).last().copied().unwrap_or(0)
 }
 
-/// Room for the longest list, and for the longest text of an element.
+/// Room for the most markers of an event, for the longest list, and for the longest text of an element.
+const MARKERS: usize = 16;
 const LIST: usize = 2_048;
 const ELEMENT: usize = 256;
+
+/// A marker as the calls for C number it.
+fn word(marker: &Marker) -> u32 {
+    match marker {
+        Marker::Start => u32::MAX,
+        Marker::ByEvent(event) => u32::from(*event),
+    }
+}
+
+fn event_origin(input: &Input) -> Measured {
+    let (table, number) = (&input.table, last_lifted(input));
+    measured(
+        MARKERS,
+        |out: &mut [u32]| library::event_origin(table, number, out),
+        |out| {
+            let origin = calls::event_behind(table, number)?;
+            for (to, marker) in out.iter_mut().zip(&origin.markers) {
+                *to = word(marker);
+            }
+            Ok(())
+        },
+    )
+}
+
+/// The way back from the event and the markers behind that step.
+fn event_number(input: &Input) -> Measured {
+    let (table, number) = (&input.table, last_lifted(input));
+    let origin = calls::event_behind(table, number).expect("the run lifts");
+    let words: Vec<u32> = origin.markers.iter().map(word).collect();
+    measured(
+        1,
+        |out: &mut [u16]| library::event_number(table, origin.event, &words, &mut out[0]),
+        |out| {
+            out[0] = calls::event_number(table, origin.event, &origin.markers)?;
+            Ok(())
+        },
+    )
+}
 
 fn unfolded_pre(input: &Input) -> Measured {
     let (table, number) = (&input.table, last_lifted(input));
@@ -190,9 +230,11 @@ type Call = (&'static str, fn(&Input) -> Measured);
 
 const PLAYED: [Call; 3] = [("judge", judge), ("fire", fire), ("replay", replay)];
 
-const UNFOLDED: [Call; 6] = [
+const UNFOLDED: [Call; 8] = [
     ("lift", lift),
     ("project", project),
+    ("event_origin", event_origin),
+    ("event_number", event_number),
     ("unfolded_pre", unfolded_pre),
     ("unfolded_post", unfolded_post),
     ("unfolded_fire", unfolded_fire),
