@@ -1,5 +1,7 @@
 // What the lift and the projection of a run do first: the table laid out, the run's length tested, and how many unfolded events stand
 // before each event.
+#![tactic(auto)]
+
 ghost use Rattle.std.specs.Prelude.{◌≡◌, length};
 ghost use Rattle.model.specs.Numbering.{size};
 ghost use Rattle.table.specs.Decoded.{net_of};

@@ -1,4 +1,6 @@
 // Whether two events that follow each other may change places, by the lists of their records and the marking before them.
+#![tactic(auto)]
+
 ghost use Rattle.std.specs.Prelude.{◌≡◌, ◌++◌};
 ghost use Rattle.lists.specs.Lists.{mem, all, ◌⇒◌};
 ghost use Rattle.words.specs.Words.{words};
@@ -9,7 +11,7 @@ ghost use Rattle.apart.specs.Found.{Found};
 ghost use Rattle.apart.specs.Tests.{passes_of};
 
 // The tests that the conditions of a list are put to.
-#[derive(Drop)]
+#[derive(Clone, Copy)]
 pub enum Test {
     Shared,
     Held,

@@ -1,4 +1,6 @@
 // The arcs of one transition of the exported net, laid out as ranges of places, and the way from one transition to the next.
+#![tactic(auto)]
+
 ghost use Rattle.std.specs.Prelude.{◌≡◌, suc, ◌+◌, ◌*◌, ◌<◌, length};
 ghost use Rattle.lists.specs.Lists.{sum};
 ghost use Rattle.records.specs.Records.{pre_part};

@@ -1,4 +1,6 @@
 // A table asked for what it says, written to a lent output: the conditions of an event's lists, and the marking at the start.
+#![tactic(auto)]
+
 ghost use Rattle.std.specs.Prelude.{◌≡◌, length};
 ghost use Rattle.words.specs.Words.{words};
 ghost use Rattle.refusal.specs.Answer.{fitting, written};

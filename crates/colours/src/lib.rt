@@ -1,4 +1,6 @@
 // Which conditions are persistent, and how many colours the persistent preconditions of an event leave it.
+#![tactic(auto)]
+
 ghost use Rattle.std.specs.Prelude.{◌≡◌, ◌*◌, ◌≤◌, eqb, length};
 ghost use Rattle.lists.specs.Lists.{any, index};
 ghost use Rattle.words.specs.Words.{words};

@@ -1,4 +1,6 @@
 // The numbers of unfolded conditions: for an ordinary condition, and for a persistent one with a marker and a user.
+#![tactic(auto)]
+
 ghost use Rattle.std.specs.Prelude.{◌≡◌};
 ghost use Rattle.condition_numbers.specs.Answers.{ordinary_number, copy_number};
 

@@ -1,4 +1,6 @@
 // What stands behind the number of an unfolded condition: an ordinary condition, or a persistent one with a marker and a user.
+#![tactic(auto)]
+
 ghost use Rattle.std.specs.Prelude.{◌≡◌, ◌≤◌};
 ghost use Rattle.model.specs.Unfolding.{ordinary};
 ghost use Rattle.model.specs.Numbering.{width};
@@ -10,7 +12,7 @@ ghost use Rattle.conditions.specs.Owners.{Owns};
 use refusal::{Judged, Marker, Refusal, TableCondition, TableEvent, UnfoldedCondition};
 
 // What stands behind an unfolded condition's number: an ordinary condition, or a persistent one with its marker and user.
-#[derive(Drop)]
+#[derive(Clone, Copy)]
 pub enum ConditionOrigin {
     Ordinary(TableCondition),
     Copy(TableCondition, Marker, TableEvent),

@@ -1,4 +1,6 @@
 // The marking of the unfolding, written from the table's marking and the events that have occurred, which determine it.
+#![tactic(auto)]
+
 ghost use Rattle.std.specs.Prelude.{◌≡◌, ◌++◌, true, length, get_or, drop};
 ghost use Rattle.words.specs.Words.{words};
 ghost use Rattle.model.specs.Unfolding.{basic};

@@ -1,5 +1,7 @@
 // Whether an unfolded event can fire, decided from the table's marking and the events that have occurred, so that no unfolded marking is
 // kept; `decide` stands at the end.
+#![tactic(auto)]
+
 ghost use Rattle.std.specs.Prelude.{◌≡◌, ◌≤◌, length, set};
 ghost use Rattle.lists.specs.Lists.{failing};
 ghost use Rattle.words.specs.Words.{words};

@@ -1,4 +1,6 @@
 // The export of a table element by element: by number, or from one place to the next, so that nothing is walked again.
+#![tactic(auto)]
+
 ghost use Rattle.std.specs.Prelude.{◌≡◌, true, ◌≤◌, ltb, length, get_or};
 ghost use Rattle.model.specs.Across.{most_unfolded};
 ghost use Rattle.refusal.specs.Answer.{need, fitting, written};
@@ -21,7 +23,7 @@ use refusal::Judged;
 const PAST_ALL: usize = 1099511627776;
 
 // What a table is opened to: the number of its events or the refusal, then how many unfolded conditions and events.
-#[derive(Drop)]
+#[derive(Clone, Copy)]
 pub struct Opened {
     pub answer: Judged,
     pub events: usize,
@@ -30,7 +32,7 @@ pub struct Opened {
 }
 
 // How many bytes were written, and where the export stands after them.
-#[derive(Drop)]
+#[derive(Clone, Copy)]
 pub struct Written {
     pub count: usize,
     pub next: Place,

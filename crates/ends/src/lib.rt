@@ -1,4 +1,6 @@
 // The unfolded marking that a lift or an unfolded run ends in, written to a lent output.
+#![tactic(auto)]
+
 ghost use Rattle.std.specs.Prelude.{◌≡◌, length};
 ghost use Rattle.model.specs.Lent.{marking};
 ghost use Rattle.model.specs.Unfolding.{basic};

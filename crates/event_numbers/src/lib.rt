@@ -1,4 +1,6 @@
 // The numbers of unfolded events: for an event and markers.
+#![tactic(auto)]
+
 ghost use Rattle.std.specs.Prelude.{◌≡◌, ◌≤◌};
 ghost use Rattle.words.specs.Words.{words};
 ghost use Rattle.unfolding.specs.Numbers.{choices_of};
@@ -10,7 +12,7 @@ use events::Colour;
 use refusal::{Judged, TableEvent};
 
 // What the markers of a colour come to: the place among the colours of an event, or that they are none of these.
-#[derive(Drop)]
+#[derive(Clone, Copy)]
 enum Weighed {
     Is(usize),
     NoSuch,

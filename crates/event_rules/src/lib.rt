@@ -1,4 +1,6 @@
 // The rules of an Event record, with their refusals.
+#![tactic(auto)]
+
 ghost use Rattle.std.specs.Prelude.{◌≡◌, ◌+◌, ◌≤◌, length};
 ghost use Rattle.event_rules.specs.EventRules.{lists_of, event_of};
 

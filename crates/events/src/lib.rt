@@ -1,4 +1,6 @@
 // The event and the markers behind the number of an unfolded event.
+#![tactic(auto)]
+
 ghost use Rattle.std.specs.Prelude.{◌≡◌, ◌+◌, ◌≤◌, ◌<◌, length};
 ghost use Rattle.words.specs.Words.{words};
 ghost use Rattle.model.specs.Numbering.{digits};
@@ -12,18 +14,18 @@ use refusal::{Judged, Marker, TableEvent, UnfoldedEvent};
 use unfolding::Found;
 
 // One marker of a colour.
-#[derive(Drop)]
+#[derive(Clone, Copy)]
 pub struct Pick(pub Marker);
 
 // A colour: one marker for each persistent precondition, ascending.
-#[derive(Drop)]
+#[derive(Clone, Copy)]
 pub struct Colour {
     pub count: usize,
     pub picks: [Pick; 16],
 }
 
 // The event and the markers behind an unfolded event's number, with the answer that says how many markers, or the refusal.
-#[derive(Drop)]
+#[derive(Clone, Copy)]
 pub struct EventOrigin {
     pub answer: Judged,
     pub event: TableEvent,

@@ -1,4 +1,6 @@
 // The exchange of two neighbouring steps of a lent run, where they may change places.
+#![tactic(auto)]
+
 ghost use Rattle.std.specs.Prelude.{◌≡◌, suc, ◌≤◌, length, ltb};
 ghost use Rattle.model.specs.Net.{begin};
 ghost use Rattle.model.specs.Exchange.{apart_step, exchanged};

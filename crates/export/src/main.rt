@@ -1,4 +1,6 @@
 // Exports the unfolded net of a table: reads net.bin and writes it element by element, or the one line of what is refused.
+#![tactic(auto)]
+
 ghost use Rattle.std.specs.Prelude.{◌≡◌, ◌≤◌, length};
 ghost use Rattle.elements.specs.Needs.{Ready};
 

@@ -1,4 +1,6 @@
 // Where the export of a table stands: the element at each place, the place of each element by its number, and the place after one.
+#![tactic(auto)]
+
 ghost use Rattle.std.specs.Prelude.{◌≡◌, ◌+◌, ◌*◌, ◌≤◌, ◌<◌, length};
 ghost use Rattle.records.specs.Records.{conditions};
 ghost use Rattle.table.specs.Decoded.{net_of};
@@ -11,7 +13,7 @@ use pnml::{Element, Link};
 use spots::{Next, Spot};
 
 // Where an export stands: at what opens it, at a place, at a transition, at an arc, at what closes it, or past all.
-#[derive(Drop)]
+#[derive(Clone, Copy)]
 pub enum Place {
     Opens,
     Place(usize),

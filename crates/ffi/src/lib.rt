@@ -1,4 +1,6 @@
 // The calls that include/dovetrellis.h declares for C: each hands on what it is given and tells the answer.
+#![tactic(auto)]
+
 ghost use Rattle.std.specs.Prelude.{◌≡◌, true, false, length};
 ghost use Rattle.refusal.specs.declared.Judged.TheVariants.{Fine};
 ghost use Rattle.refusal.specs.Answer.{and_then};

@@ -1,4 +1,6 @@
 // What the programs that work on files share: a file read as far as there is room for it, and the line of a refusal written out.
+#![tactic(auto)]
+
 ghost use Rattle.io.specs.Counts.{IsPrefixLen};
 
 use libc::STDOUT_FILENO;

@@ -1,4 +1,6 @@
 // The firing of an unfolded event on a lent unfolded marking: its lists are walked as ranges, and none of their numbers is kept.
+#![tactic(auto)]
+
 ghost use Rattle.std.specs.Prelude.{◌≡◌, [], ◌+◌, length};
 ghost use Rattle.lists.specs.Lists.{sum};
 ghost use Rattle.model.specs.Net.{fire, stopping};

@@ -1,4 +1,6 @@
 // A run of a table looked at as a whole: what first marked each persistent condition, which events occurred, and the first repeat.
+#![tactic(auto)]
+
 ghost use Rattle.std.specs.Prelude.{◌≡◌, ◌<◌, replicate};
 ghost use Rattle.words.specs.Words.{words};
 ghost use Rattle.table.specs.Decoded.{net_of};
@@ -9,31 +11,31 @@ ghost use Rattle.firsts.specs.Walks.{Walkable, Walks};
 use refusal::{Marker, TableEvent};
 
 // What first marked a condition, if anything did.
-#[derive(Drop)]
+#[derive(Clone, Copy)]
 pub enum First {
     Unset,
     Set(Marker),
 }
 
 // The first marker of one condition.
-#[derive(Drop)]
+#[derive(Clone, Copy)]
 pub struct Slot(pub First);
 
 // The first marker of each condition, by its number.
-#[derive(Drop)]
+#[derive(Clone, Copy)]
 pub struct Firsts {
     pub slots: [Slot; 256],
 }
 
 // Whether an event that marks for others came again, and at which step first.
-#[derive(Drop)]
+#[derive(Clone, Copy)]
 pub enum Repeat {
     Never,
     At(usize),
 }
 
 // What a walk along a run tells.
-#[derive(Drop)]
+#[derive(Clone, Copy)]
 pub struct Walked {
     pub repeat: Repeat,
     pub firsts: Firsts,

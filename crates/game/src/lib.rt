@@ -1,4 +1,6 @@
 // Concession and firing of a table's events over a lent marking, once both are judged.
+#![tactic(auto)]
+
 ghost use Rattle.std.specs.Prelude.{◌≡◌};
 ghost use Rattle.refusal.specs.declared.Judged.TheVariants.{Fine};
 ghost use Rattle.game.specs.Lent.{first_above};

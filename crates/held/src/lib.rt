@@ -1,5 +1,7 @@
 // A marking in four words of 64 bits, one for each condition: gathered from lent bytes or from a list, read, put together, and written
 // to lent bytes.
+#![tactic(auto)]
+
 ghost use Rattle.std.specs.Prelude.{◌≡◌, not, ◌&&◌, ◌||◌, ◌++◌, ◌-◌, ◌≤◌, min, length, drop};
 ghost use Rattle.lists.specs.Lists.{mem};
 ghost use Rattle.words.specs.Words.{words};

@@ -1,5 +1,7 @@
 // Judges net A's table and a damaged one for each of the refusals 1 to 9, as docs/REFUSALS.md lists them, then tables with a Rule
 // record, a line for each; run by the gate.
+#![tactic(auto)]
+
 ghost use Rattle.std.specs.Prelude.{◌<◌};
 
 use libc::STDOUT_FILENO;

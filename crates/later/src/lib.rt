@@ -1,4 +1,6 @@
 // What a later occurrence of an event picks: itself for a condition that it marks and that nobody else uses, and else the first marker.
+#![tactic(auto)]
+
 ghost use Rattle.std.specs.Prelude.{◌≡◌};
 ghost use Rattle.words.specs.Words.{words};
 ghost use Rattle.table.specs.Decoded.{net_of};

@@ -1,5 +1,7 @@
 // What every call on the unfolding does first, so that all of them refuse alike: judge the table, count markers, users and colours, and
 // refuse with 13 and 14.
+#![tactic(auto)]
+
 ghost use Rattle.std.specs.Prelude.{◌≡◌, ◌≤◌, length};
 ghost use Rattle.words.specs.Words.{words};
 ghost use Rattle.table.specs.Decoded.{net_of};

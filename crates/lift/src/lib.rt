@@ -1,5 +1,7 @@
 // The lift of a run of a table: each step's event becomes an unfolded event by what it picks, on a first occurrence or on a later one;
 // the call stands at the end.
+#![tactic(auto)]
+
 ghost use Rattle.std.specs.Prelude.{◌≡◌, ◌++◌, length, drop};
 ghost use Rattle.model.specs.Runs.{opening};
 ghost use Rattle.model.specs.Across.{own_or_earliest, lifting};

@@ -1,4 +1,6 @@
 // A listing to its last byte, once its two files are opened: its text is written piece by piece.
+#![tactic(auto)]
+
 ghost use Rattle.std.specs.Prelude.{◌≡◌, [], ◌∷◌, ◌≤◌, ◌<◌, length, get_or};
 ghost use Rattle.model.specs.Across.{most_unfolded};
 ghost use Rattle.spelling.specs.Puts.{Puts};
@@ -14,7 +16,7 @@ use refusal::Judged;
 
 // Where a listing stands: at the start's line, at the line of a step, at the begin of the unfolded end's line, at more of its list
 // from a condition on, at the newline after it, or past all.
-#[derive(Drop)]
+#[derive(Clone, Copy)]
 pub enum Place {
     Start,
     Step(usize),
@@ -25,7 +27,7 @@ pub enum Place {
 }
 
 // How many bytes were written, and where the listing stands after them.
-#[derive(Drop)]
+#[derive(Clone, Copy)]
 pub struct Written {
     pub count: usize,
     pub next: Place,

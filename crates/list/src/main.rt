@@ -1,4 +1,6 @@
 // Lists a run of a table: reads net.bin and run.bin and writes the listing piece by piece, or the one line of what is refused.
+#![tactic(auto)]
+
 ghost use Rattle.lines.specs.Needs.{Ready};
 ghost use Rattle.lines.specs.declared.Place.TheVariants.{Start};
 

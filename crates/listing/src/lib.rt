@@ -1,4 +1,6 @@
 // The text of a listing, written into lent bytes piece by piece: a piece is first put into too few bytes, which measures it.
+#![tactic(auto)]
+
 ghost use Rattle.std.specs.Prelude.{◌≡◌, [], ◌∷◌, ◌++◌, ◌+◌, ◌-◌, ◌*◌, ◌≤◌, ◌<◌, length};
 ghost use Rattle.std.proofs.Math.Option.{some};
 ghost use Rattle.model.specs.Lent.{marking};
@@ -14,7 +16,7 @@ use refusal::{By, Judged};
 
 // What can be written at once: the line of the start, of a step, or of a refusal; the begin of the line of the unfolded end; or
 // more of a list from a condition on.
-#[derive(Drop)]
+#[derive(Clone, Copy)]
 pub enum Piece {
     Start,
     Step(usize, usize, usize),

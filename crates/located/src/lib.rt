@@ -1,4 +1,6 @@
 // What stops a step, turned from a condition of the table into the unfolded condition that it stands for; `locate` stands at the end.
+#![tactic(auto)]
+
 ghost use Rattle.std.specs.Prelude.{◌≡◌, false, ◌+◌, ◌*◌, ◌≤◌, ◌<◌, T, eqb};
 ghost use Rattle.std.proofs.Math.Option.{some};
 ghost use Rattle.lists.specs.Lists.{mem, index, sum};

@@ -1,4 +1,6 @@
 // Which events of a table may lose a run in the unfolded net when they come again; the call stands at the end.
+#![tactic(auto)]
+
 ghost use Rattle.std.specs.Prelude.{◌≡◌, ◌&&◌, ◌++◌, ◌≤◌, eqb, length, drop};
 ghost use Rattle.lists.specs.Lists.{all, any};
 ghost use Rattle.model.specs.Lent.{bytes};

@@ -1,6 +1,8 @@
 // Walks the unfolded conditions' and events' numbers of the nets on standard input to what stands behind them and back, one line for
 // each net, which stands there as one letter, a byte that tells how many numbers are passed over after each one walked (0 in all but
 // the net of most conditions), the length of its table in two bytes, and the table.
+#![tactic(auto)]
+
 use conditions::ConditionOrigin;
 use libc::{STDIN_FILENO, STDOUT_FILENO};
 use refusal::{Judged, UnfoldedCondition, UnfoldedEvent};

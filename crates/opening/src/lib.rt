@@ -1,5 +1,7 @@
 // The two files of a listing opened once: judged in order, the run lifted, its end reached, and what the text is written from put into
 // lent memory.
+#![tactic(auto)]
+
 ghost use Rattle.std.specs.Prelude.{◌≡◌, ◌≤◌, length, replicate};
 ghost use Rattle.model.specs.Across.{most_steps, most_unfolded};
 ghost use Rattle.opening.specs.Opening.{Empty, Reaches, SetsUp, Opens};
@@ -7,7 +9,7 @@ ghost use Rattle.opening.specs.Opening.{Empty, Reaches, SetsUp, Opens};
 use refusal::Judged;
 
 // What the two files are opened to: the number of steps or the refusal, then how many events, conditions and unfolded conditions.
-#[derive(Drop)]
+#[derive(Clone, Copy)]
 pub struct Opened {
     pub answer: Judged,
     pub events: usize,

@@ -1,4 +1,6 @@
 // What C sees: an answer by value, single values written only where the call worked, and markers as numbers.
+#![tactic(auto)]
+
 ghost use Rattle.std.specs.Prelude.{◌≡◌, ◌<◌, length, get_or};
 ghost use Rattle.refusal.specs.Answer.{fitting, value_of, written};
 ghost use Rattle.unfolding.specs.Markers.{meant};
@@ -16,7 +18,7 @@ const START: u32 = 0xFFFFFFFF;
 
 // An answer as C sees it: 0, 0 and 0 where the call worked, else a refusal with the condition that stopped a step.
 #[repr(C)]
-#[derive(Drop)]
+#[derive(Clone, Copy)]
 pub struct Answer {
     pub number: u64,
     pub place: u64,

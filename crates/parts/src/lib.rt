@@ -1,4 +1,6 @@
 // What may be asked of a table: its events, its lists as parts of its own bytes, and its conditions.
+#![tactic(auto)]
+
 ghost use Rattle.std.specs.Prelude.{◌≡◌, get_or};
 ghost use Rattle.words.specs.Words.{words};
 ghost use Rattle.records.specs.Parts.{Part};
@@ -8,7 +10,7 @@ ghost use Rattle.table.specs.Decoded.{net_of, list_of};
 use refusal::{Judged, Refusal, TableCondition, TableEvent};
 
 // Whether a condition is persistent, or the refusal.
-#[derive(Drop)]
+#[derive(Clone, Copy)]
 pub enum Persistence {
     Ordinary,
     Persistent,

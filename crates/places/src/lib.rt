@@ -1,5 +1,7 @@
 // The unfolded event that each event of a table has by the first markers of a run: first the place of each first marker among the
 // markers of its condition, then the numbers.
+#![tactic(auto)]
+
 ghost use Rattle.std.specs.Prelude.{◌≡◌, ◌≤◌, length};
 ghost use Rattle.words.specs.Words.{words};
 ghost use Rattle.model.specs.Numbering.{size};

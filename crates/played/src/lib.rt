@@ -1,5 +1,7 @@
 // A run of a judged table played on words: where its events stand, where it starts, step after step, and its end written to a lent
 // output; and the start and a step on lent bytes.
+#![tactic(auto)]
+
 ghost use Rattle.std.specs.Prelude.{◌≡◌, ◌≤◌, length, replicate};
 ghost use Rattle.model.specs.Net.{begin, stopping, fire};
 ghost use Rattle.table.specs.Walk.{judge_of};
@@ -16,7 +18,7 @@ use refusal::Judged;
 use step::{Cause, Moved, Step};
 
 // What a run answers, and the marking that it comes to.
-#[derive(Drop)]
+#[derive(Clone, Copy)]
 pub struct Played {
     pub answer: Judged,
     pub held: [u64; 4],

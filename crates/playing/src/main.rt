@@ -1,4 +1,6 @@
 // Plays nets A, B and E, and B under the old rule, and writes each answer and what it left in lent memory; run by the gate.
+#![tactic(auto)]
+
 use libc::STDOUT_FILENO;
 use refusal::{By, Judged, TableEvent};
 

@@ -1,5 +1,7 @@
 // The elements of an exported net as text, written into lent bytes one at a time: an element is first put into too few bytes, which
 // measures it.
+#![tactic(auto)]
+
 ghost use Rattle.std.specs.Prelude.{◌≡◌, ◌++◌, ◌+◌, ◌≤◌, length};
 ghost use Rattle.refusal.specs.Answer.{fitting, written};
 ghost use Rattle.spelling.specs.Decimal.{decimal};
@@ -10,14 +12,14 @@ ghost use Rattle.pnml.specs.Text.{arc_begins, place_name, transition_name, place
 use refusal::Judged;
 
 // What an arc joins: a place into a transition, or a transition's way out to a place.
-#[derive(Drop)]
+#[derive(Clone, Copy)]
 pub enum Link {
     Into(usize, usize),
     OutOf(usize, usize),
 }
 
 // An element of an exported net: all that opens; a place, with or without a token; a transition; an arc by its number; all that closes.
-#[derive(Drop)]
+#[derive(Clone, Copy)]
 pub enum Element {
     Opens,
     Place(usize, bool),

@@ -1,4 +1,6 @@
 // The projection of an unfolded run: its steps replayed over the table's marking and the events that have occurred, then read back.
+#![tactic(auto)]
+
 ghost use Rattle.std.specs.Prelude.{◌≡◌, ◌≤◌, ◌<◌, length, get_or, set, replicate};
 ghost use Rattle.model.specs.Net.{fire};
 ghost use Rattle.model.specs.Lent.{bytes, marking};

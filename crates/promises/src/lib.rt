@@ -1,1 +1,2 @@
 // What is promised of the calls together; no code.
+#![tactic(auto)]

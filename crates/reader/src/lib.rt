@@ -1,12 +1,14 @@
 // A table with a place in it, for those who walk a table record by record; the work is in plain functions
 // over the slice and the place, and what takes the struct is thin.
+#![tactic(auto)]
+
 ghost use Rattle.std.specs.Prelude.{◌≡◌};
 ghost use Rattle.reader.specs.Read.{record_of, next_of};
 
 use refusal::Judged;
 
 // A table and a place in it.
-#[derive(Drop)]
+#[derive(Clone, Copy)]
 pub struct Reader<'a> {
     pub table: &'a [u8],
     pub at: usize,

@@ -1,10 +1,12 @@
 // One record of a table: its header, and its lists as parts of the table.
+#![tactic(auto)]
+
 ghost use Rattle.std.specs.Prelude.{◌≡◌, ◌+◌, ◌*◌};
 ghost use Rattle.records.specs.Records.{part, header_of, old_rule, front, conditions, flags, pre_count, pre_part, post_part, marking_part};
 ghost use Rattle.records.specs.Parts.{Part, place_in};
 
 // A header whose payload is there whole, or not.
-#[derive(Drop)]
+#[derive(Clone, Copy)]
 pub enum Header {
     Whole { kind: u16, len: usize },
     Short,

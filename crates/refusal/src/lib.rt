@@ -1,4 +1,6 @@
 // What every call shares: the limits, the refusal with its number and place, the four numberings kept apart, and the marker.
+#![tactic(auto)]
+
 ghost use Rattle.std.specs.Prelude.{◌≡◌};
 ghost use Rattle.refusal.specs.Answer.{refused_at, refused_by, number_of, place_of, by_of, value_of};
 
@@ -9,23 +11,23 @@ pub const MOST_STEPS: usize = 4096;
 pub const MOST_UNFOLDED: u32 = 65535;
 
 // The number of an event of the table.
-#[derive(Drop)]
+#[derive(Clone, Copy)]
 pub struct TableEvent(pub u16);
 
 // The number of an event of the unfolding.
-#[derive(Drop)]
+#[derive(Clone, Copy)]
 pub struct UnfoldedEvent(pub u16);
 
 // The number of a condition of the table.
-#[derive(Drop)]
+#[derive(Clone, Copy)]
 pub struct TableCondition(pub u16);
 
 // The number of a condition of the unfolding.
-#[derive(Drop)]
+#[derive(Clone, Copy)]
 pub struct UnfoldedCondition(pub u16);
 
 // The condition that stopped a step: one of the table or one of the unfolding; nothing for every number but 11 and 12.
-#[derive(Drop)]
+#[derive(Clone, Copy)]
 pub enum By {
     Nothing,
     Table(TableCondition),
@@ -33,7 +35,7 @@ pub enum By {
 }
 
 // Why a call is refused, by number, and where; beside it the condition that stopped a step.
-#[derive(Drop)]
+#[derive(Clone, Copy)]
 pub struct Refusal {
     pub number: u8,
     pub place: usize,
@@ -41,14 +43,14 @@ pub struct Refusal {
 }
 
 // An offset or a count, or the refusal.
-#[derive(Drop)]
+#[derive(Clone, Copy)]
 pub enum Judged {
     Fine(usize),
     Refused(Refusal),
 }
 
 // What marked a persistent condition: the start, or an event of the table.
-#[derive(Drop)]
+#[derive(Clone, Copy)]
 pub enum Marker {
     Start,
     ByEvent(TableEvent),

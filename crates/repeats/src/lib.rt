@@ -1,5 +1,7 @@
 // Which events of a table mark a persistent condition for others and so may occur only once in a run that is lifted, found once for
 // all events.
+#![tactic(auto)]
+
 ghost use Rattle.std.specs.Prelude.{◌≡◌, length};
 ghost use Rattle.lists.specs.Lists.{any};
 ghost use Rattle.words.specs.Words.{words};

@@ -1,4 +1,6 @@
 // Runs of a table replayed over lent memory, from its own marking or from a lent one.
+#![tactic(auto)]
+
 ghost use Rattle.std.specs.Prelude.{◌≡◌, length};
 ghost use Rattle.replay.specs.Calls.{replay_of, end_of, replay_from_of, end_from_of};
 

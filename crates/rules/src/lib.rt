@@ -1,4 +1,6 @@
 // The rules of the first records and of the last one of a table, with their refusals.
+#![tactic(auto)]
+
 ghost use Rattle.std.specs.Prelude.{◌≡◌};
 ghost use Rattle.rules.specs.Rules.{rule_of, conditions_of, marking_of};
 

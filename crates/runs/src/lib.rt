@@ -1,4 +1,6 @@
 // Run and Lifted records, read into a lent run; no table is needed.
+#![tactic(auto)]
+
 ghost use Rattle.std.specs.Prelude.{◌≡◌, length};
 ghost use Rattle.runs.specs.Runs.{run_kind, lifted_kind, steps_in, read_answer, run_into};
 

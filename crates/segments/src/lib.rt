@@ -1,5 +1,7 @@
 // The lists of one unfolded event as ranges of numbers, at most two for each condition of the table, so that no list is kept number by
 // number.
+#![tactic(auto)]
+
 ghost use Rattle.std.specs.Prelude.{◌≡◌, ◌++◌, ◌+◌, ◌*◌, ◌≤◌, ◌<◌, length, get_or};
 ghost use Rattle.lists.specs.Lists.{count, sum, spread};
 ghost use Rattle.words.specs.Words.{words};
@@ -10,7 +12,7 @@ ghost use Rattle.tally.specs.Having.{one_at};
 ghost use Rattle.segments.specs.Ranges.{ranged, within, owner_of, alone_of, joined_of, choices_at, chosen_from, Choosing, event_at, added, size_if, Known, Owned, Ranges};
 
 // The numbers that one condition of the table adds to a list: one range, then another.
-#[derive(Drop)]
+#[derive(Clone, Copy)]
 pub struct Segment {
     pub first: u32,
     pub size: u32,
@@ -19,7 +21,7 @@ pub struct Segment {
 }
 
 // What the number of an unfolded event names: an event, where its record stands, how many colours it has, and which of them it is.
-#[derive(Drop)]
+#[derive(Clone, Copy)]
 pub struct Owner {
     pub event: usize,
     pub at: usize,

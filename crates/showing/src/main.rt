@@ -1,5 +1,7 @@
 // Shows what the calls tell that are not for C: reads net.bin, run.bin and marking.bin and writes a reader's walk over the table, its
 // events, start and conditions with one past the last, and the run replayed from the lent marking; run by the gate.
+#![tactic(auto)]
+
 use libc::STDOUT_FILENO;
 use parts::Persistence;
 use refusal::{Judged, TableCondition, TableEvent};

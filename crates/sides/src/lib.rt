@@ -1,4 +1,6 @@
 // The four sides of an unfolded event in the doubled net, as ranges of numbers: what it takes and puts, and what it newly fills and empties.
+#![tactic(auto)]
+
 ghost use Rattle.std.specs.Prelude.{◌≡◌, map, ◌+◌, ◌*◌, ◌≤◌, length};
 ghost use Rattle.lists.specs.Lists.{count, spread};
 ghost use Rattle.records.specs.Records.{conditions, pre_part};
@@ -11,7 +13,7 @@ use segments::{Owner, Segment};
 
 // What an unfolded event does: it takes, it fills what it did not take, it puts, it empties what it does not put back; under the old rule
 // what is both is filled and emptied too.
-#[derive(Drop)]
+#[derive(Clone, Copy)]
 pub enum Side {
     Takes,
     Fills,
@@ -21,7 +23,7 @@ pub enum Side {
 
 // What an unfolded event has of one condition of the table: a number, whether it takes that, whether it gives it back by the paper's rule,
 // and the range of those that its event marks.
-#[derive(Drop)]
+#[derive(Clone, Copy)]
 struct Share {
     number: u32,
     takes: u32,

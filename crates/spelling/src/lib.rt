@@ -1,5 +1,7 @@
 // Bytes, numbers and texts put at a place of lent bytes: every place that these have no room for is left out, so that what is put into
 // too few of them is measured.
+#![tactic(auto)]
+
 ghost use Rattle.std.specs.Prelude.{◌≡◌, [], ◌∷◌, ◌+◌, ◌≤◌, ◌<◌, length};
 ghost use Rattle.spelling.specs.Decimal.{decimal};
 ghost use Rattle.spelling.specs.Puts.{farthest, Put};

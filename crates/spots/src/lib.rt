@@ -1,4 +1,6 @@
 // The arcs of an export by the spot where each stands: found by number, or from one to the next, so that nothing is walked again.
+#![tactic(auto)]
+
 ghost use Rattle.std.specs.Prelude.{◌≡◌, ◌+◌, ◌*◌, ◌≤◌, ◌<◌, length};
 ghost use Rattle.records.specs.Records.{conditions};
 ghost use Rattle.spots.specs.Spots.{found_by, moved_to, at_none, Spotted, Skips, Sized, Unfolds, Due, Reads, Reaches, Holding, Held};
@@ -8,7 +10,7 @@ use unfolding::Found;
 
 // Where an arc of an export stands: the unfolded event that is its transition and that one's number, its own number among all arcs, and
 // its range of places with an offset into it.
-#[derive(Drop)]
+#[derive(Clone, Copy)]
 pub struct Spot {
     pub own: Owner,
     pub transition: usize,
@@ -18,14 +20,14 @@ pub struct Spot {
 }
 
 // The arc with a number, or that there is none.
-#[derive(Drop)]
+#[derive(Clone, Copy)]
 pub enum Next {
     At(Spot),
     Past,
 }
 
 // Where a search for an arc ends: the transition that was opened last, how many arcs come before its own, and how many it has.
-#[derive(Drop)]
+#[derive(Clone, Copy)]
 pub struct Reached {
     pub own: Owner,
     pub transition: usize,

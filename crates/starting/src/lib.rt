@@ -1,4 +1,6 @@
 // The start of the unfolding, written to a lent output.
+#![tactic(auto)]
+
 ghost use Rattle.std.specs.Prelude.{◌≡◌, ◌++◌, length, drop};
 ghost use Rattle.model.specs.Net.{begin};
 ghost use Rattle.model.specs.Lent.{bytes};

@@ -1,5 +1,7 @@
 // One step of the token game: what stops the event whose record stands at an offset of a table, and what its firing leaves, on words and
 // on lent bytes.
+#![tactic(auto)]
+
 ghost use Rattle.std.specs.Prelude.{◌≡◌, not, ◌&&◌, ◌≤◌, length, get_or};
 ghost use Rattle.std.specs.Int.Bits.{bit_or};
 ghost use Rattle.words.specs.Words.{words};
@@ -14,7 +16,7 @@ ghost use Rattle.step.specs.Steps.{failing_of, set_one, set_all, lists_net, reco
 use refusal::{By, Judged, TableCondition};
 
 // What stops a step: there is no such event, or the lowest condition that is lacking or in contact.
-#[derive(Drop)]
+#[derive(Clone, Copy)]
 pub enum Cause {
     Unknown,
     Lacks(TableCondition),
@@ -22,21 +24,21 @@ pub enum Cause {
 }
 
 // What one step answers: it goes, or what stops it.
-#[derive(Drop)]
+#[derive(Clone, Copy)]
 pub enum Step {
     Goes,
     Stops(Cause),
 }
 
 // The first condition of a list that fails its test.
-#[derive(Drop)]
+#[derive(Clone, Copy)]
 pub enum Failing {
     Nothing,
     At(TableCondition),
 }
 
 // What one step on words answers, and the marking after it.
-#[derive(Drop)]
+#[derive(Clone, Copy)]
 pub struct Moved {
     pub step: Step,
     pub held: [u64; 4],

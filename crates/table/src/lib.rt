@@ -1,4 +1,6 @@
 // A table judged in one pass, its counts, and where its events stand.
+#![tactic(auto)]
+
 ghost use Rattle.std.specs.Prelude.{◌≡◌};
 ghost use Rattle.refusal.specs.declared.Judged.TheVariants.{Fine};
 ghost use Rattle.refusal.specs.Answer.{and_then};

@@ -1,5 +1,7 @@
 // The events of a table that have a condition in one of their two lists, how many, which, and at which place: markers and users are
 // counted and found by one walk.
+#![tactic(auto)]
+
 ghost use Rattle.std.specs.Prelude.{◌≡◌, ◌≤◌, eqb, length, get_or};
 ghost use Rattle.lists.specs.Lists.{index};
 ghost use Rattle.words.specs.Words.{words};

@@ -1,11 +1,13 @@
 // What one step of the unfolded net answers, and that answer as a call's.
+#![tactic(auto)]
+
 ghost use Rattle.std.specs.Prelude.{◌≡◌};
 ghost use Rattle.unfolded_step.specs.Steps.{cause_number, cause_by, cause_place, stopped_at, answered_of};
 
 use refusal::{By, Judged, UnfoldedCondition};
 
 // What stops a step: there is no such unfolded event, or the lowest unfolded condition that is lacking or in contact.
-#[derive(Drop)]
+#[derive(Clone, Copy)]
 pub enum Cause {
     Unknown,
     Lacks(UnfoldedCondition),
@@ -13,7 +15,7 @@ pub enum Cause {
 }
 
 // What one step answers: it goes, or what stops it.
-#[derive(Drop)]
+#[derive(Clone, Copy)]
 pub enum Step {
     Goes,
     Stops(Cause),

@@ -1,4 +1,6 @@
 // The unfolding of a table asked for its counts, and the walks that its numbers share: markers by their places, the event of a number.
+#![tactic(auto)]
+
 ghost use Rattle.std.specs.Prelude.{◌≡◌, ◌+◌, ◌≤◌, ◌<◌, length, get_or};
 ghost use Rattle.lists.specs.Lists.{index, sum};
 ghost use Rattle.refusal.specs.declared.Judged.TheVariants.{Fine};
@@ -13,7 +15,7 @@ ghost use Rattle.unfolding.specs.Numbers.{Within, Belongs, code, told};
 use refusal::{Judged, Marker, TableEvent};
 
 // The event that a number belongs to, its offset, what is left of the number, and its number of colours.
-#[derive(Drop)]
+#[derive(Clone, Copy)]
 pub enum Found {
     At(usize, usize, u32, u32),
     Past,

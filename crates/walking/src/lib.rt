@@ -1,4 +1,6 @@
 // The ranges of an unfolded event walked on an unfolded marking: what stops the event, and bytes set at its conditions.
+#![tactic(auto)]
+
 ghost use Rattle.std.specs.Prelude.{◌≡◌, [], ◌≤◌, ◌<◌, length};
 ghost use Rattle.lists.specs.Lists.{mem, failing, count};
 ghost use Rattle.model.specs.Unfolding.{basic};
@@ -13,7 +15,7 @@ use refusal::UnfoldedCondition;
 use unfolded_step::{Cause, Step};
 
 // The first unfolded condition of a list that fails its test.
-#[derive(Drop)]
+#[derive(Clone, Copy)]
 pub enum Failing {
     Nothing,
     At(UnfoldedCondition),

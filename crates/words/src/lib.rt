@@ -1,4 +1,6 @@
 // Numbers of two bytes in a slice of bytes, and the tests on a list of them; past the end all is 0, so that no caller has to ask first.
+#![tactic(auto)]
+
 ghost use Rattle.std.specs.Prelude.{◌≡◌, ◌+◌, ◌<◌, length, get_or};
 ghost use Rattle.lists.specs.Lists.{mem, fits};
 ghost use Rattle.words.specs.Words.{word_at, words, bits, count_in};
