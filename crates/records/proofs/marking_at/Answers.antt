@@ -1,0 +1,20 @@
+-- `records::marking_at` meets its contract.
+use native.Mathlib.Omega.{arith}
+use mathlib.Core.Path.{refl, ◌∙◌, sym, ap}
+use Prim.Native.Nat.{ℕ, ◌+◌}
+use Rattle.words.specs.Words.{word_at}
+use Rattle.records.specs.Records.{part}
+use Rattle.records.proofs.Parts.{part_none, place_out}
+use Rattle.records.proofs.marking_at.Goals as goal
+
+pub returns-then-s-at : goal.returns-then-s-at
+returns-then-s-at c =
+    let s = c.before.before.before.args.s.now in
+    let at = c.before.before.before.args.at in
+    let e = place_out s (at + 4) (omega arith) in
+    record { reads = sym (part_none s (at + 4) (word_at s at) (omega arith)); within = refl; begins = omega arith }
+
+pub returns : goal.returns
+returns c =
+    let p = c.shown.ensures in
+    record { reads = p.reads ∙ ap (λ (w : ℕ). part c.args.s.now (c.args.at + 4) w) c.word-len.ensures; within = p.within; begins = p.begins }
