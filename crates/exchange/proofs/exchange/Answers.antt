@@ -1,0 +1,71 @@
+-- `exchange::exchange` meets its contract.
+use native.Mathlib.Omega.{arith}
+use mathlib.Core.Path.{◌∙◌, sym}
+use Prim.Native.Nat.{suc, ◌<◌}
+use lib.ListN.{length}
+use borrow.Author.Tests.{ltb-true}
+use Rattle.refusal.proofs.Chain.{passed_up}
+use Rattle.table.proofs.Walk.{accepted}
+use Rattle.exchange.specs.Calls.{exchange_of}
+use Rattle.played.proofs.Begun.{begun_plays}
+use Rattle.exchange.proofs.Exchanging.{kept_run, stopped_run, whole_run, no_step_lem, not_apart_lem, exchanges, put_back, part_room}
+use Rattle.exchange.proofs.exchange.Goals as goal
+
+pub returns-in_default : goal.returns-in_default
+unfolding exchange_of
+returns-in_default c =
+    let whole = kept_run _ _ _ _ _ c.in_default.is (passed_up _ c.judge-judged.ensures c.in_default.is) in
+    record {
+      answer = whole.0;
+      after = whole.1;
+    }
+
+pub fill-requires : goal.fill-requires
+fill-requires c =
+    let j = sym c.judge-judged.ensures ∙ c.in-Fine.is in
+    let few = (accepted _ _ j).few in
+    (j, omega arith)
+
+pub start_held-start-requires : goal.start_held-start-requires
+start_held-start-requires c =
+    sym c.judge-judged.ensures ∙ c.in-Fine.is
+
+pub play-played-requires : goal.play-played-requires
+play-played-requires c =
+    let j = sym c.judge-judged.ensures ∙ c.in-Fine.is in
+    (j, c.fill.ensures)
+
+pub apart_steps-requires : goal.apart_steps-requires
+apart_steps-requires c =
+    let j = sym c.judge-judged.ensures ∙ c.in-Fine.is in
+    let whole = whole_run _ _ c.args.k _ j _ _ (begun_plays _ _ _ c.start_held-start.ensures _ _ _ c.play-played.ensures) _ c.in-Fine-answer.is in
+    record { judged = j; indexed = c.fill.ensures; short = whole.1; plays = whole.0; next = ltb-true _ _ (sym c.has_next.ensures ∙ c.if-has_next.true) }
+
+pub offset_bounds-run-k : goal.offset_bounds-run-k
+offset_bounds-run-k c =
+    let next : suc c.args.k < length c.args.run.now = ltb-true _ _ (sym c.has_next.ensures ∙ c.if-has_next.true) in omega arith
+
+pub slice_bounds-swap_first-count : goal.slice_bounds-swap_first-count
+slice_bounds-swap_first-count c =
+    let next : suc c.args.k < length c.args.run.now = ltb-true _ _ (sym c.has_next.ensures ∙ c.if-has_next.true) in omega arith
+
+pub slice_bounds-swap_first-start : goal.slice_bounds-swap_first-start
+slice_bounds-swap_first-start c =
+    let next : suc c.args.k < length c.args.run.now = ltb-true _ _ (sym c.has_next.ensures ∙ c.if-has_next.true) in omega arith
+
+pub slice_bounds-swap_first-end : goal.slice_bounds-swap_first-end
+slice_bounds-swap_first-end c =
+    let next : suc c.args.k < length c.args.run.now = ltb-true _ _ (sym c.has_next.ensures ∙ c.if-has_next.true) in omega arith
+
+pub swap_first-requires : goal.swap_first-requires
+swap_first-requires c =
+    part_room c.args.k c.args.run.now (ltb-true _ _ (sym c.has_next.ensures ∙ c.if-has_next.true))
+
+pub returns-then-apart_steps : goal.returns-then-apart_steps
+returns-then-apart_steps c =
+    let j = sym c.judge-judged.ensures ∙ c.in-Fine.is in
+    let e = exchanges _ _ c.args.k _ j _ _ (begun_plays _ _ _ c.start_held-start.ensures _ _ _ c.play-played.ensures) _ c.in-Fine-answer.is (sym c.has_next.ensures ∙ c.if-has_next.true) (sym c.apart_steps.ensures ∙ c.if-apart_steps.true) in
+    record {
+      answer = e.0;
+      after = put_back c.args.k c.args.run.now _ c.swap_first.ensures ∙ e.1;
+    }

@@ -1,0 +1,32 @@
+-- `replay::replay` meets its contract.
+use native.Mathlib.Omega.{arith}
+use mathlib.Core.Path.{◌∙◌, sym}
+use Rattle.refusal.proofs.Chain.{passed_up}
+use Rattle.table.proofs.Walk.{accepted}
+use Rattle.replay.specs.Calls.{replay_of, end_of}
+use Rattle.replay.proofs.Ends.{call_refused, call_fine, replay_judged}
+use Rattle.played.proofs.Begun.{begun_plays}
+use Rattle.replay.proofs.replay.Goals as goal
+
+pub returns-in_default : goal.returns-in_default
+unfolding replay_of end_of
+returns-in_default c =
+    let told = sym c.judge-judged.ensures ∙ c.in_default.is in
+    record {
+      answer = passed_up _ c.judge-judged.ensures c.in_default.is;
+      after = simp told;
+    }
+
+pub fill-requires : goal.fill-requires
+fill-requires c =
+    let j = sym c.judge-judged.ensures ∙ c.in-Fine.is in
+    let few = (accepted _ _ j).few in
+    (j, omega arith)
+
+pub start_held-requires : goal.start_held-requires
+start_held-requires c =
+    sym c.judge-judged.ensures ∙ c.in-Fine.is
+
+pub play-played-requires : goal.play-played-requires
+play-played-requires c =
+    (sym c.judge-judged.ensures ∙ c.in-Fine.is, c.fill.ensures)

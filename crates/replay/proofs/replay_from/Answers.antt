@@ -1,0 +1,29 @@
+-- `replay::replay_from` meets its contract.
+use native.Mathlib.Omega.{arith}
+use mathlib.Core.Path.{◌∙◌, sym}
+use Rattle.refusal.proofs.Chain.{written_refused}
+use Rattle.table.proofs.Walk.{accepted}
+use Rattle.replay.specs.Calls.{end_from_of}
+use Rattle.replay.proofs.Starting.{lent_judged, lent_gathered}
+use Rattle.replay.proofs.Ends.{call_refused, call_fine, replay_from_judged, replay_from_refused}
+use Rattle.played.proofs.Begun.{begun_plays}
+use Rattle.replay.proofs.replay_from.Goals as goal
+
+pub returns-in_default : goal.returns-in_default
+unfolding end_from_of
+returns-in_default c =
+    let same = c.in_default.is ∙ replay_from_refused _ _ _ _ _ (sym c.judge_lent-judged.ensures ∙ c.in_default.is) in
+    record {
+      answer = same;
+      after = written_refused _ _ _ _ (sym same ∙ c.in_default.is);
+    }
+
+pub fill-requires : goal.fill-requires
+fill-requires c =
+    let j = lent_judged _ _ _ (sym c.judge_lent-judged.ensures ∙ c.in-Fine.is) in
+    let few = (accepted _ _ j).few in
+    (j, omega arith)
+
+pub play-played-requires : goal.play-played-requires
+play-played-requires c =
+    (lent_judged _ _ _ (sym c.judge_lent-judged.ensures ∙ c.in-Fine.is), c.fill.ensures)
