@@ -1,7 +1,7 @@
 /*
  * Asks the library about one table, from C: judges it, fires an event, lifts a run, and shows refusals.
  *
- * At the top of the repository, on x86-64 as on Arm (docs/C.md tells more):
+ * At the top of the repository, on x86-64 (docs/C.md tells more):
  *
  *     driver/archive target/libdovetrellis.a
  *     cc -Wall -Iinclude -o target/call examples/call.c target/libdovetrellis.a
