@@ -35,6 +35,15 @@ play-played-requires c =
     let j = sym c.judge-judged.ensures ∙ c.in-Fine.is in
     (j, c.fill.ensures)
 
+pub returns-in_default-answer : goal.returns-in_default-answer
+returns-in_default-answer c =
+    let j = sym c.judge-judged.ensures ∙ c.in-Fine.is in
+    let whole = stopped_run _ _ _ _ j _ _ (begun_plays _ _ _ c.start_held-start.ensures _ _ _ c.play-played.ensures) _ c.in_default-answer.is in
+    record {
+      answer = whole.0;
+      after = whole.1;
+    }
+
 pub apart_steps-requires : goal.apart_steps-requires
 apart_steps-requires c =
     let j = sym c.judge-judged.ensures ∙ c.in-Fine.is in
@@ -68,4 +77,22 @@ returns-then-apart_steps c =
     record {
       answer = e.0;
       after = put_back c.args.k c.args.run.now _ c.swap_first.ensures ∙ e.1;
+    }
+
+pub returns-then-has_next : goal.returns-then-has_next
+returns-then-has_next c =
+    let j = sym c.judge-judged.ensures ∙ c.in-Fine.is in
+    let whole = kept_run _ _ c.args.k _ _ c.refused.ensures (c.refused.ensures ∙ not_apart_lem _ _ c.args.k _ j _ _ (begun_plays _ _ _ c.start_held-start.ensures _ _ _ c.play-played.ensures) _ c.in-Fine-answer.is (sym c.has_next.ensures ∙ c.if-has_next.true) (sym c.apart_steps.ensures ∙ c.if-apart_steps.false)) in
+    record {
+      answer = whole.0;
+      after = whole.1;
+    }
+
+pub returns : goal.returns
+returns c =
+    let j = sym c.judge-judged.ensures ∙ c.in-Fine.is in
+    let whole = kept_run _ _ c.args.k _ _ c.refused-2.ensures (c.refused-2.ensures ∙ no_step_lem _ _ c.args.k _ j _ _ (begun_plays _ _ _ c.start_held-start.ensures _ _ _ c.play-played.ensures) _ c.in-Fine-answer.is (sym c.has_next.ensures ∙ c.if-has_next.false)) in
+    record {
+      answer = whole.0;
+      after = whole.1;
     }

@@ -27,3 +27,23 @@ fill-requires c =
 pub play-played-requires : goal.play-played-requires
 play-played-requires c =
     (lent_judged _ _ _ (sym c.judge_lent-judged.ensures ∙ c.in-Fine.is), c.fill.ensures)
+
+pub returns-in_default-answer : goal.returns-in_default-answer
+unfolding end_from_of
+returns-in_default-answer c =
+    let j = sym c.judge_lent-judged.ensures ∙ c.in-Fine.is in
+    let whole = call_refused _ _ _ _ _ (begun_plays _ _ _ (lent_gathered _ _ _ j _ c.gather.ensures) _ _ _ c.play-played.ensures) _ _ (replay_from_judged _ _ _ _ _ j) _ c.in_default-answer.is in
+    record {
+      answer = whole.0;
+      after = whole.1;
+    }
+
+pub returns : goal.returns
+unfolding end_from_of
+returns c =
+    let j = sym c.judge_lent-judged.ensures ∙ c.in-Fine.is in
+    let whole = call_fine _ _ _ _ _ (begun_plays _ _ _ (lent_gathered _ _ _ j _ c.gather.ensures) _ _ _ c.play-played.ensures) _ _ (replay_from_judged _ _ _ _ _ j) _ c.in-Fine-answer.is _ _ c.write_end.ensures.answer c.write_end.ensures.after in
+    record {
+      answer = whole.0;
+      after = whole.1;
+    }
