@@ -1,0 +1,99 @@
+-- `firsts::walk` meets its contract.
+use borrow.Author.Tests.{eq-eqb, ne_eqb}
+use native.Mathlib.Omega.{arith}
+use Prim.Native.Nat.{ℕ, ◌-◌}
+use lib.ListN.{length, length-replicate}
+use mathlib.Core.Path.{refl, ◌∙◌, sym, ap}
+use mathlib.Core.Bool.{true, false}
+use Rattle.table.specs.Decoded.{net_of}
+use Rattle.firsts.proofs.Along.{along_start, along_new, along_again, along_repeat, along_end}
+use Rattle.firsts.proofs.Walking.{few_events, start_inside, start_length, start_first, post_inside, post_length, post_first, step_event, step_low, step_inside, step_offset, step_once, step_others}
+use Rattle.firsts.proofs.walk.Goals as goal
+
+pub overflow_cast-events : goal.overflow_cast-events
+overflow_cast-events c =
+    omega (arith, few_events _ _ c.requires.walkable.judged)
+
+pub marked-firsts-requires : goal.marked-firsts-requires
+marked-firsts-requires c =
+    start_inside _ _ c.requires.walkable.judged _ c.offset.ensures _ c.marking_at-start.ensures.reads
+
+pub loop-k-init : goal.loop-k-init
+loop-k-init c =
+    let s = c.args.table.now in
+    let j = c.requires.walkable.judged in
+    let long = start_length s _ j _ c.offset.ensures _ c.marking_at-start.ensures.reads _ _ c.no_firsts.ensures c.marked-firsts.ensures in
+    let first = start_first s _ j _ c.offset.ensures _ c.marking_at-start.ensures.reads _ _ c.no_firsts.ensures c.marked-firsts.ensures in
+    along_start (net_of s) _ c.marked-firsts.result.slots _ c.requires.walkable.plays long first c.requires.seen_value
+
+pub overflow_cast-e : goal.overflow_cast-e
+overflow_cast-e c =
+    omega (arith, step_low _ _ _ _ c.requires.walkable _ _ _ _ c.loop-k.invariant c.loop-k-test.true)
+
+pub bounds-seen-e : goal.bounds-seen-e
+bounds-seen-e c =
+    omega (arith, step_low _ _ _ _ c.requires.walkable _ _ _ _ c.loop-k.invariant c.loop-k-test.true, c.loop-k.invariant.seens.size)
+
+pub overflow_cast-e-then-seen-e-eq1 : goal.overflow_cast-e-then-seen-e-eq1
+overflow_cast-e-then-seen-e-eq1 c =
+    omega (arith, step_low _ _ _ _ c.requires.walkable _ _ _ _ c.loop-k.invariant c.loop-k-test.true)
+
+pub bounds-once-e : goal.bounds-once-e
+bounds-once-e c =
+    step_once _ _ _ _ c.requires.walkable _ _ _ _ c.loop-k.invariant c.loop-k-test.true _ c.requires.once
+
+pub loop-k-preserved-then-once-e-eq1 : goal.loop-k-preserved-then-once-e-eq1
+loop-k-preserved-then-once-e-eq1 c =
+    let low = step_low _ _ _ _ c.requires.walkable _ _ _ _ c.loop-k.invariant c.loop-k-test.true in
+    let m = step_others _ _ _ _ c.requires.walkable _ _ _ _ c.loop-k.invariant c.loop-k-test.true _ c.requires.once true (eq-eqb _ 1 c.if-once-e-eq1.true) in
+    rw c.at_latest-repeat.ensures (along_repeat _ _ _ _ _ _ c.loop-k.invariant c.loop-k-test.true _ refl low c.if-seen-e-eq1.true m _ (omega arith))
+
+pub loop-k-preserved-else-once-e-eq1 : goal.loop-k-preserved-else-once-e-eq1
+loop-k-preserved-else-once-e-eq1 c =
+    let low = step_low _ _ _ _ c.requires.walkable _ _ _ _ c.loop-k.invariant c.loop-k-test.true in
+    let m = step_others _ _ _ _ c.requires.walkable _ _ _ _ c.loop-k.invariant c.loop-k-test.true _ c.requires.once false (ne_eqb _ 1 c.if-once-e-eq1.false) in
+    along_again _ _ _ _ _ _ c.loop-k.invariant c.loop-k-test.true _ refl low c.if-seen-e-eq1.true m
+
+pub overflow_cast-seen : goal.overflow_cast-seen
+overflow_cast-seen c =
+    omega (arith, step_low _ _ _ _ c.requires.walkable _ _ _ _ c.loop-k.invariant c.loop-k-test.true)
+
+pub bounds-seen-e-else-seen-e-eq1 : goal.bounds-seen-e-else-seen-e-eq1
+bounds-seen-e-else-seen-e-eq1 c =
+    omega (arith, step_low _ _ _ _ c.requires.walkable _ _ _ _ c.loop-k.invariant c.loop-k-test.true, c.loop-k.invariant.seens.size)
+
+pub overflow_cast-e-else-seen-e-eq1 : goal.overflow_cast-e-else-seen-e-eq1
+overflow_cast-e-else-seen-e-eq1 c =
+    omega (arith, step_low _ _ _ _ c.requires.walkable _ _ _ _ c.loop-k.invariant c.loop-k-test.true)
+
+pub offset_bounds-offsets-e : goal.offset_bounds-offsets-e
+offset_bounds-offsets-e c =
+    omega (arith, step_low _ _ _ _ c.requires.walkable _ _ _ _ c.loop-k.invariant c.loop-k-test.true)
+
+pub bounds-offsets-e : goal.bounds-offsets-e
+bounds-offsets-e c =
+    step_inside _ _ _ _ c.requires.walkable _ _ _ _ c.loop-k.invariant c.loop-k-test.true
+
+pub marked-firsts-requires-else-seen-e-eq1 : goal.marked-firsts-requires-else-seen-e-eq1
+marked-firsts-requires-else-seen-e-eq1 c =
+    let e = step_event _ _ _ _ c.requires.walkable _ _ _ _ c.loop-k.invariant c.loop-k-test.true in
+    let o = step_offset _ _ _ _ c.requires.walkable _ _ _ _ c.loop-k.invariant c.loop-k-test.true in
+    post_inside _ _ c.requires.walkable.judged _ e _ o _ c.list_at-post.ensures
+
+pub loop-k-preserved : goal.loop-k-preserved
+loop-k-preserved c =
+    let j = c.requires.walkable.judged in
+    let low = step_low _ _ _ _ c.requires.walkable _ _ _ _ c.loop-k.invariant c.loop-k-test.true in
+    let e = step_event _ _ _ _ c.requires.walkable _ _ _ _ c.loop-k.invariant c.loop-k-test.true in
+    let o = step_offset _ _ _ _ c.requires.walkable _ _ _ _ c.loop-k.invariant c.loop-k-test.true in
+    let long = post_length _ _ j _ e _ o _ c.list_at-post.ensures _ _ c.loop-k.invariant.firsts.size c.marked-firsts-else-seen-e-eq1.ensures in
+    let first = post_first _ _ j _ e _ o _ c.list_at-post.ensures _ _ c.loop-k.invariant.firsts.size c.marked-firsts-else-seen-e-eq1.ensures in
+    along_new _ _ _ _ _ _ c.loop-k.invariant c.loop-k-test.true _ refl low c.if-seen-e-eq1.false _ long first
+
+pub shape_of-seen : goal.shape_of-seen
+shape_of-seen c =
+    c.loop-k.invariant.seens.size ∙ sym (ap length c.requires.seen_value ∙ length-replicate {A = ℕ} 256 0)
+
+pub returns : goal.returns
+returns c =
+    along_end _ _ _ _ _ _ c.loop-k.invariant c.loop-k-test.false _ refl refl

@@ -1,0 +1,14 @@
+-- What each turn of a loop in `unfolding::colours_before` keeps, and what falls.
+use Prim.Native.Nat.{◌≤◌, ◌-◌}
+use mathlib.Core.Path.{◌≡◌}
+use Rattle.lists.specs.Lists.{sum}
+use Rattle.model.specs.Numbering.{size}
+use Rattle.table.specs.Walk.{offset_of}
+use Rattle.table.specs.Decoded.{net_of}
+use Rattle.unfolding.proofs.colours_before.Given as goal
+
+abbrev pub invariant-loop-e : goal.invariant-loop-e
+invariant-loop-e l = (l.e ≤ l.upto) × (l.at ≡ offset_of l.table l.e) × (l.total ≡ sum (size (net_of l.table)) l.e)
+
+abbrev pub decreases-loop-e : goal.decreases-loop-e
+decreases-loop-e l = l.upto - l.e
