@@ -1,0 +1,19 @@
+-- `firing::lend` meets its contract.
+use Rattle.firing.proofs.Lends.{lend_refused, count_is, lend_long, lend_above, lend_fine}
+use Rattle.firing.proofs.lend.Goals as goal
+
+pub returns-in_default : goal.returns-in_default
+returns-in_default c =
+    lend_refused c.args.table.now c.args.state.now c.lay_out-r.result c.lay_out-r.new.markers c.lay_out-r.new.users c.lay_out-r.new.bases c.lay_out-r.ensures _ c.in_default.is
+
+pub returns-then-state-count : goal.returns-then-state-count
+returns-then-state-count c =
+    lend_long c.args.table.now c.args.state.now c.lay_out-r.result c.lay_out-r.new.markers c.lay_out-r.new.users c.lay_out-r.new.bases c.lay_out-r.ensures _ c.in-Fine.is c.number-count.result (count_is c.args.table.now c.args.state.now c.lay_out-r.result c.lay_out-r.new.markers c.lay_out-r.new.users c.lay_out-r.new.bases c.lay_out-r.ensures _ c.in-Fine.is c.conditions.result c.number-count.result c.conditions.ensures c.number-count.ensures) c.refused.result c.refused.ensures c.if-state-count.true
+
+pub returns-then-above-state : goal.returns-then-above-state
+returns-then-above-state c =
+    lend_above c.args.table.now c.args.state.now c.lay_out-r.result c.lay_out-r.new.markers c.lay_out-r.new.users c.lay_out-r.new.bases c.lay_out-r.ensures _ c.in-Fine.is c.number-count.result (count_is c.args.table.now c.args.state.now c.lay_out-r.result c.lay_out-r.new.markers c.lay_out-r.new.users c.lay_out-r.new.bases c.lay_out-r.ensures _ c.in-Fine.is c.conditions.result c.number-count.result c.conditions.ensures c.number-count.ensures) c.refused-then-above-state.result c.first_above-above.result c.refused-then-above-state.ensures c.first_above-above.ensures c.if-state-count.false c.if-above-state.true
+
+pub returns : goal.returns
+returns c =
+    lend_fine c.args.table.now c.args.state.now c.lay_out-r.result c.lay_out-r.new.markers c.lay_out-r.new.users c.lay_out-r.new.bases c.lay_out-r.ensures _ c.in-Fine.is c.number-count.result (count_is c.args.table.now c.args.state.now c.lay_out-r.result c.lay_out-r.new.markers c.lay_out-r.new.users c.lay_out-r.new.bases c.lay_out-r.ensures _ c.in-Fine.is c.conditions.result c.number-count.result c.conditions.ensures c.number-count.ensures) c.first_above-above.result c.first_above-above.ensures c.if-state-count.false c.if-above-state.false
