@@ -1,0 +1,56 @@
+-- `project::play` meets its contract.
+use Prim.Native.Nat.{◌-◌}
+use native.Mathlib.Omega.{arith}
+use Rattle.project.proofs.Walks.{walk_stops, walk_ends, walk_on}
+use Rattle.project.proofs.play.Goals as goal
+
+pub loop-k-init : goal.loop-k-init
+loop-k-init c =
+    c.requires.walked
+
+pub step_unfolded-step-requires : goal.step_unfolded-step-requires
+step_unfolded-step-requires c =
+    record {
+      underway = record { equipped = c.requires.equipped; walked = c.loop-k.invariant };
+      k_in_bounds = c.loop-k-test.true;
+    }
+
+pub shape_of-places-in-Stops : goal.shape_of-places-in-Stops
+shape_of-places-in-Stops c =
+    omega (arith, c.loop-k.invariant.held.size, c.requires.walked.held.size)
+
+pub shape_of-kept-in-Stops : goal.shape_of-kept-in-Stops
+shape_of-kept-in-Stops c =
+    omega (arith, c.loop-k.invariant.held.room, c.requires.walked.held.room)
+
+pub returns-in-Stops : goal.returns-in-Stops
+returns-in-Stops c =
+    walk_stops _ _ _ _ _ _ _ c.loop-k.invariant c.loop-k-test.true _ _ _ _ _ c.step_unfolded-step.ensures _ c.in-Stops.is _ c.stopped_at.ensures _ _
+
+pub overflow_add-k : goal.overflow_add-k
+overflow_add-k c =
+    omega (arith, c.loop-k-test.true, c.loop-k.invariant.short)
+
+pub loop-k-preserved : goal.loop-k-preserved
+loop-k-preserved c =
+    walk_on _ _ _ _ _ _ _ _ c.step_unfolded-step.ensures c.in_default.is
+
+pub shape_of-state : goal.shape_of-state
+shape_of-state c =
+    omega (arith, c.loop-k.invariant.long, c.requires.walked.long)
+
+pub shape_of-seen : goal.shape_of-seen
+shape_of-seen c =
+    omega (arith, c.loop-k.invariant.wide, c.requires.walked.wide)
+
+pub shape_of-places : goal.shape_of-places
+shape_of-places c =
+    omega (arith, c.loop-k.invariant.held.size, c.requires.walked.held.size)
+
+pub shape_of-kept : goal.shape_of-kept
+shape_of-kept c =
+    omega (arith, c.loop-k.invariant.held.room, c.requires.walked.held.room)
+
+pub returns : goal.returns
+returns c =
+    walk_ends _ _ _ _ _ _ _ c.loop-k.invariant c.loop-k-test.false
