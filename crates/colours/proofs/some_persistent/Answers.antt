@@ -18,9 +18,9 @@ pub loop-i-preserved : goal.loop-i-preserved
 loop-i-preserved c = (
   omega arith,
   elim c.if-flags-i-eq1.branch [
-    then-flags-i-eq1 w ↦ c.loop-i.invariant.1 ∙ some_here c.args.flags.now c.loop-i.i (omega arith) w.if-flags-i-eq1.true c.loop-i.found ∙ sym (ap (λ (t : Bool). t || any (eqb 1) (drop (c.loop-i.i + 1) c.args.flags.now)) w.found-is)
+    | then-flags-i-eq1 w ↦ c.loop-i.invariant.1 ∙ some_here c.args.flags.now c.loop-i.i (omega arith) w.if-flags-i-eq1.true c.loop-i.found ∙ sym (ap (λ (t : Bool). t || any (eqb 1) (drop (c.loop-i.i + 1) c.args.flags.now)) w.found-is)
     | else-flags-i-eq1 w ↦ c.loop-i.invariant.1 ∙ ap (λ (t : Bool). c.loop-i.found || t) (some_later c.args.flags.now c.loop-i.i (omega arith) w.if-flags-i-eq1.false) ∙ sym (ap (λ (t : Bool). t || any (eqb 1) (drop (c.loop-i.i + 1) c.args.flags.now)) w.found-is)
-    ],
+  ],
 )
 
 pub returns : goal.returns

@@ -37,6 +37,6 @@ returns c =
 pub loop-i-preserved : goal.loop-i-preserved
 loop-i-preserved c =
     elim c.if-is_persistent.branch [
-    then-is_persistent+else-at-c+else-radix-place t ↦ (omega arith, omega (arith, c.loop-i.invariant.1, t.if-at-c.false, t.at-is), rw (t.number-is, t.at-is) (carrying_marked c.args.table.now c.args.pre.now c.args.c c.loop-i.number c.loop-i.at c.loop-i.i c.loop-i.invariant.2 c.args.markers.now c.requires.weighing.within.marked c.loop-i-test.true c.word_within-b.result c.word_within-b.ensures (sym c.is_persistent.ensures ∙ t.if-is_persistent.true) (omega (arith, c.loop-i.invariant.1, t.if-at-c.false)) t.marker_place-place.result t.marker_place-place.ensures t.number-radix.result t.number-radix.ensures t.if-radix-place.false))
-    | else-is_persistent t ↦ (omega arith, omega (arith, c.loop-i.invariant.1, t.at-is), rw (t.number-is, t.at-is) (carrying_past c.args.table.now c.args.pre.now c.args.c c.loop-i.number c.loop-i.at c.loop-i.i c.loop-i.invariant.2 c.args.markers.now c.requires.weighing.within.marked c.loop-i-test.true c.word_within-b.result c.word_within-b.ensures (sym c.is_persistent.ensures ∙ t.if-is_persistent.false)))
+      | then-is_persistent+else-at-c+else-radix-place t ↦ (omega arith, omega (arith, c.loop-i.invariant.1, t.if-at-c.false, t.at-is), rw (t.number-is, t.at-is) (carrying_marked c.args.table.now c.args.pre.now c.args.c c.loop-i.number c.loop-i.at c.loop-i.i c.loop-i.invariant.2 c.args.markers.now c.requires.weighing.within.marked c.loop-i-test.true c.word_within-b.result c.word_within-b.ensures (sym c.is_persistent.ensures ∙ t.if-is_persistent.true) (omega (arith, c.loop-i.invariant.1, t.if-at-c.false)) t.marker_place-place.result t.marker_place-place.ensures t.number-radix.result t.number-radix.ensures t.if-radix-place.false))
+      | else-is_persistent t ↦ (omega arith, omega (arith, c.loop-i.invariant.1, t.at-is), rw (t.number-is, t.at-is) (carrying_past c.args.table.now c.args.pre.now c.args.c c.loop-i.number c.loop-i.at c.loop-i.i c.loop-i.invariant.2 c.args.markers.now c.requires.weighing.within.marked c.loop-i-test.true c.word_within-b.result c.word_within-b.ensures (sym c.is_persistent.ensures ∙ t.if-is_persistent.false)))
     ]

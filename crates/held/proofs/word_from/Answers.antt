@@ -22,10 +22,10 @@ overflow_shl-word c = omega (arith, c.bytes_from-count.ensures)
 pub returns : goal.returns
 returns c =
     gather_end _ _ _ _ _ c.loop-i.invariant c.loop-i-test.false c.bytes_from-count.ensures
+
 pub loop-i-preserved : goal.loop-i-preserved
 loop-i-preserved c =
     elim c.if-state-from-eq1.branch [
-    then-state-from-eq1 t ↦ gather_more _ _ _ _ c.loop-i.invariant (omega (arith, c.bytes_from-count.ensures)) t.if-state-from-eq1.true _ t.word-is
-    | else-state-from-eq1 t ↦ gather_over _ _ _ _ c.loop-i.invariant t.if-state-from-eq1.false _ t.word-is
+      | then-state-from-eq1 t ↦ gather_more _ _ _ _ c.loop-i.invariant (omega (arith, c.bytes_from-count.ensures)) t.if-state-from-eq1.true _ t.word-is
+      | else-state-from-eq1 t ↦ gather_over _ _ _ _ c.loop-i.invariant t.if-state-from-eq1.false _ t.word-is
     ]
-

@@ -34,8 +34,8 @@ loop-i-preserved c =
     let b = c.word_within-b.result in
     let now : c.if-only_user.next.slots ≡ own_one s us pre e c.loop-i.next.slots b =
     elim c.if-only_user.branch [
-    then-only_user w ↦ ap (λ x. x.slots) w.next-is ∙ own_set s us pre e c.loop-i.next.slots b (sym c.only_user.ensures ∙ w.if-only_user.true)
-    | else-only_user w ↦ ap (λ x. x.slots) w.next-is ∙ own_kept s us pre e c.loop-i.next.slots b (sym c.only_user.ensures ∙ w.if-only_user.false)
+      | then-only_user w ↦ ap (λ x. x.slots) w.next-is ∙ own_set s us pre e c.loop-i.next.slots b (sym c.only_user.ensures ∙ w.if-only_user.true)
+      | else-only_user w ↦ ap (λ x. x.slots) w.next-is ∙ own_kept s us pre e c.loop-i.next.slots b (sym c.only_user.ensures ∙ w.if-only_user.false)
     ] in
     (omega arith, inside_later [] post c.loop-i.i b (omega arith) c.word_within-b.ensures 256 c.loop-i.invariant.1, ap (λ (x : List Slot). own_all s us pre e x (words (drop (c.loop-i.i + 2) post))) now ∙ sym (own_next s us pre e post c.loop-i.i b (omega arith) c.word_within-b.ensures c.loop-i.next.slots) ∙ c.loop-i.invariant.2)
 

@@ -22,7 +22,7 @@ pub returns : goal.returns
 unfolding refused_line
 returns c =
     both (both (both (both (both c.put_text-first.ensures c.put_number-second.ensures) c.put_text-third.ensures) c.put_number-fourth.ensures) c.put_by-end.ensures) c.put.ensures
+
 pub put-requires : goal.put-requires
 put-requires c =
     omega (arith, c.put_text-first.ensures.told, c.put_number-second.ensures.told, c.put_text-third.ensures.told, c.put_number-fourth.ensures.told, c.put_by-end.ensures.told, twenty c.args.number (omega arith), twenty c.args.place (omega arith), by_short c.args.by c.well_formed.1.1.1.0)
-

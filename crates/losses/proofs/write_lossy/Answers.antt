@@ -56,8 +56,8 @@ loop-e-preserved c =
     c.list_at-pre.result.now c.list_at-pre.ensures c.list_at-post.result.now c.list_at-post.ensures c.is_lossy.ensures in
     let value : c.if-is_lossy.out ≡ bit c.is_lossy.result
     = elim c.if-is_lossy.branch [
-    then-is_lossy w ↦ w.out-is ∙ sym (ap bit w.if-is_lossy.true)
-    | else-is_lossy w ↦ w.out-is ∙ sym (ap bit w.if-is_lossy.false)
+      | then-is_lossy w ↦ w.out-is ∙ sym (ap bit w.if-is_lossy.true)
+      | else-is_lossy w ↦ w.out-is ∙ sym (ap bit w.if-is_lossy.false)
     ] in
     let next = writing_next args.events (lossy (net_of s)) args.out.now loop.e loop.out loop.invariant.2 test c.if-is_lossy.out (value ∙ ap bit lost) in
     (omega (arith, test), on, next)

@@ -32,8 +32,8 @@ loop-e-preserved c =
     let m = marks_walk s c.args.users.now c.requires.used c.loop-e.e (omega arith) c.loop-e.at c.loop-e.invariant.1 c.list_at-pre.result.now c.list_at-pre.ensures c.list_at-post.result.now c.list_at-post.ensures c.marks_for_others.ensures in
     let v : eqb c.if-marks_for_others.once 1 ≡ c.marks_for_others.result =
     elim c.if-marks_for_others.branch [
-    then-marks_for_others w ↦ ap (λ (x : ℕ). eqb x 1) w.once-is ∙ sym w.if-marks_for_others.true
-    | else-marks_for_others w ↦ ap (λ (x : ℕ). eqb x 1) w.once-is ∙ sym w.if-marks_for_others.false
+      | then-marks_for_others w ↦ ap (λ (x : ℕ). eqb x 1) w.once-is ∙ sym w.if-marks_for_others.true
+      | else-marks_for_others w ↦ ap (λ (x : ℕ). eqb x 1) w.once-is ∙ sym w.if-marks_for_others.false
     ] in
     (omega arith, on, upto_next (net_of s) c.loop-e.e c.loop-e.once c.loop-e.invariant.2 (omega (arith, c.requires.used.limits.few_events)) c.if-marks_for_others.once (v ∙ m))
 

@@ -36,6 +36,7 @@ pub overflow_add-next-2 : goal.overflow_add-next-2
 overflow_add-next-2 c =
     let k = known _ _ _ _ (sym c.header_at-h.ensures ∙ c.in-Whole.is) in
     omega arith
+
 pub returns-then-not-ascends : goal.returns-then-not-ascends
 unfolding marking_of need
 returns-then-not-ascends c =
@@ -50,4 +51,3 @@ pub returns : goal.returns
 unfolding marking_of need
 returns c =
     simp (sym c.header_at-h.ensures ∙ c.in-Whole.is, eq-eqb _ _ c.if-kind-ne3.false, eq-eqb _ _ c.if-len-ne0.false, ← c.conditions-n.ensures, ← c.part_of.ensures, ← c.ascends.ensures, c.if-not-ascends.false, le-leb _ _ c.if-next-s.false)
-

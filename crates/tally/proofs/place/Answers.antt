@@ -38,6 +38,6 @@ loop-i-preserved c =
     let has = walk_has c.args.table.now c.loop-i.i c.loop-i.at (omega arith) c.loop-i.invariant.1 c.args.post c.args.b c.list_at.result.now c.list_at.ensures c.has.ensures in
     let on = walk_next c.args.table.now c.loop-i.i c.loop-i.at (omega arith) c.loop-i.invariant.1 c.word.result c.word.ensures in
     elim c.if-has.branch [
-    then-has+else-e-i w ↦ (omega arith, on, omega arith, omega (arith, w.found-is, c.loop-i.invariant.3, place_later n c.args.post c.args.b c.loop-i.i c.args.upto c.loop-i-test.true (has ∙ w.if-has.true) c.args.e w.if-e-i.false))
-    | else-has w ↦ (omega arith, on, omega arith, omega (arith, w.found-is, c.loop-i.invariant.3, place_past n c.args.post c.args.b c.loop-i.i c.args.upto c.loop-i-test.true (has ∙ w.if-has.false) c.args.e))
+      | then-has+else-e-i w ↦ (omega arith, on, omega arith, omega (arith, w.found-is, c.loop-i.invariant.3, place_later n c.args.post c.args.b c.loop-i.i c.args.upto c.loop-i-test.true (has ∙ w.if-has.true) c.args.e w.if-e-i.false))
+      | else-has w ↦ (omega arith, on, omega arith, omega (arith, w.found-is, c.loop-i.invariant.3, place_past n c.args.post c.args.b c.loop-i.i c.args.upto c.loop-i-test.true (has ∙ w.if-has.false) c.args.e))
     ]

@@ -1,22 +1,19 @@
 -- `words::count_in` meets its contract.
+use Rattle.std.specs.Prelude.{◌≡◌}
 use Rattle.words.proofs.Laws.{count_in_one, count_in_none, count_in_end}
 use native.Mathlib.Omega.{arith}
 use Prim.Native.Nat.{◌-◌}
 use Rattle.words.proofs.count_in.Goals as goal
-use Rattle.words.proofs.count_in.Goals.{then-byte-eq1, else-byte-eq1}
 
 pub loop-i-preserved : goal.loop-i-preserved
 loop-i-preserved c =
     let flags = c.args.flags.now in
     let s = c.args.s.now in
-    elim c.if-byte-eq1.branch [
-    then-byte-eq1 t ↦
-    let e = count_in_one flags s c.loop-i.i c.word_within-w.result c.byte.result (omega arith) c.word_within-w.ensures c.byte.ensures t.if-byte-eq1.true in
-    (omega arith, omega arith, omega (arith, e, c.loop-i.invariant.2))
-    | else-byte-eq1 t ↦
-    let e = count_in_none flags s c.loop-i.i c.word_within-w.result c.byte.result (omega arith) c.word_within-w.ensures c.byte.ensures t.if-byte-eq1.false in
-    (omega arith, omega arith, omega (arith, e, c.loop-i.invariant.2))
-    ]
+    let w = c.word_within-w in
+    let b = c.byte in
+    let one = λ (p : b.result ≡ 1). count_in_one flags s c.loop-i.i w.result b.result (omega arith) w.ensures b.ensures p in
+    let none = λ (p : b.result ≡ 1 → ⊥). count_in_none flags s c.loop-i.i w.result b.result (omega arith) w.ensures b.ensures p in
+    grind (arith, one, none)
 
 pub returns : goal.returns
 returns c =
