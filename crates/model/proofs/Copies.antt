@@ -7,7 +7,7 @@ use mathlib.Core.List.{List, [], ◌∷◌}
 use Prim.Native.Nat.{ℕ}
 use lib.Dec.{T, eqb, eqb→eq, eqb_refl, ltb→lt}
 use lib.ListN.{get_elem?}
-use Rattle.lists.specs.Lists.{mem, same, ◌∈◌}
+use Rattle.lists.specs.Lists.{mem, ◌∈◌}
 use Rattle.lists.proofs.Bools.{is_true, T_of, not-true, and_left, and_right, and_both, or_left, or_right, or_cases, or_none}
 use Rattle.lists.proofs.Places.{place_of, in_at, hit, mem_places}
 use Rattle.model.specs.Net.{Net, Marking, begin, can, fire}

@@ -9,7 +9,7 @@ use lib.Dec.{T}
 use lib.ListN.{get_elem?, length}
 use native.Mathlib.Omega.{arith}
 use Rattle.model.specs.Net.{Net, Sound, Marking, begin, Stop}
-use Rattle.model.specs.Runs.{runs, end, opening, after, ends}
+use Rattle.model.specs.Runs.{runs, end, opening, after}
 use Rattle.model.specs.Unfolding.{UnfoldedCondition, unfolded_conditions, basic}
 use Rattle.model.specs.Exchange.{apart_step, exchanged}
 use Rattle.model.specs.Across.{of_table, of_unfolding, stopped, other, run, refusal, unless, most_steps, too_long, unfolding_refused, Lifting, own_or_earliest, lifted, repeated, lifting, lift, read_back, projecting, project, exchanging, exchange}

@@ -17,7 +17,7 @@ use Rattle.model.specs.Runs.{runs, end, Marker, by_event, State, marker, or_else
 use Rattle.model.specs.Unfolding.{UnfoldedEvent, reads}
 use Rattle.model.specs.Numbering.{number}
 use Rattle.model.specs.Exchange.{apart, apart_step, exchanged}
-use Rattle.model.specs.Across.{Lifting, coloured, lifted, repeated, exchange}
+use Rattle.model.specs.Across.{Lifting, coloured, lifted, repeated}
 use Rattle.model.proofs.Firing.{runs_first, runs_rest, can_concession, pre_holds}
 use Rattle.model.proofs.Laws.{First, Reached, Plain}
 use Rattle.model.proofs.Copies.{reached_step, state_same}

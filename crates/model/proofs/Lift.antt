@@ -16,7 +16,7 @@ use Rattle.model.specs.Net.{Net, Marking, begin, free, can, fire}
 use Rattle.model.specs.Runs.{runs, end, Marker, by_event, State, opening, step, after}
 use Rattle.model.specs.Unfolding.{same_marker, UnfoldedCondition, ordinary, copy, markers, users, unfolded_conditions, UnfoldedEvent, reads, unfolded_events, picked, takes, puts, origin, basic}
 use Rattle.model.specs.Numbering.{number}
-use Rattle.model.specs.Across.{run, Lifting, coloured, lifted, repeated, read_back}
+use Rattle.model.specs.Across.{Lifting, coloured, lifted, repeated, read_back}
 use Rattle.model.proofs.Firing.{runs_first, runs_rest, runs_cons, can_event, can_concession, can_of, pre_holds, unblocked, concession_intro}
 use Rattle.model.proofs.Unfolded.{same_marker_refl, same_marker_eq, Each, Kind, kind_of, pair_of, event_in, takes_at, puts_at, in_pre, in_post, free_ordinary, free_copy}
 use Rattle.model.proofs.Numbers.{number_at}

@@ -1,13 +1,12 @@
 -- Which runs of the table some run of the unfolded net reads back as: exactly those without a repeat, and on a later occurrence the
 -- pick is forced.
-use mathlib.Core.Path.{◌≡◌, refl, sym, ◌∙◌, ap, subst}
-use mathlib.Core.Bool.{Bool, true, false, ◌&&◌, ◌||◌}
+use mathlib.Core.Path.{◌≡◌, refl, sym, subst}
+use mathlib.Core.Bool.{Bool, true, false, ◌&&◌}
 use mathlib.Core.Logic.{◌↔◌}
-use mathlib.Core.Option.{Option, none, some}
+use mathlib.Core.Option.{none, some}
 use mathlib.Core.List.{List, [], ◌∷◌, ◌++◌}
 use Prim.Native.Nat.{ℕ, suc, ◌<◌}
 use lib.Dec.{T, eqb, eqb→eq, eqb_refl}
-use lib.ListN.{length}
 use native.Mathlib.Omega.{arith}
 use Rattle.lists.specs.Lists.{mem, ◌∈◌}
 use Rattle.lists.proofs.Bools.{is_true, is_false, T_of, not-true, and_left, and_right, and_both, or_left, or_right}

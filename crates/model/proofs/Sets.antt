@@ -18,7 +18,7 @@ use Rattle.lists.proofs.Distinct.{ascending_least, ascending_keep}
 use Rattle.model.specs.Net.{Net, Sound}
 use Rattle.model.specs.Runs.{Marker, at_start, by_event}
 use Rattle.model.specs.Unfolding.{same_marker, UnfoldedCondition, ordinary, copy, markers, users, copies, unfolded_conditions, UnfoldedEvent, reads, unfolded_events, picked, takes, puts, begins, origin, basic}
-use Rattle.model.specs.Paper.{◌∩◌, ◌≐◌, B, P, E, pre, Marks, Uses, E', B', pre', post', start', chosen, named}
+use Rattle.model.specs.Paper.{◌∩◌, ◌≐◌, P, E, pre, Marks, Uses, E', B', pre', post', start', chosen, named}
 use Rattle.model.proofs.Unfolded.{same_marker_eq, Each, picked_cases, picked_first, picked_in, choices_each, start_marks, event_marks, event_uses, ordinary_in_lem, copy_in, kind_of, pair_of, event_in, colour_out, colour_picks, origin_in}
 
 module _ (n : Net) where

@@ -2,12 +2,12 @@
 use Rattle.std.specs.Prelude.{◌≡◌, Bool, true, ◌&&◌, ◌↔◌, List, ◌∷◌, ◌++◌, ℕ, ◌+◌, ◌<◌, T, length}
 use Rattle.std.proofs.Math.Option.{none, some}
 use Rattle.std.proofs.Math.ListN.{get_elem?}
-use Rattle.lists.specs.Lists.{mem, same, ◌∈◌}
+use Rattle.lists.specs.Lists.{mem, ◌∈◌}
 use Rattle.model.specs.Net.{Net, Marking, begin, Stop, stopping}
-use Rattle.model.specs.Runs.{runs, end, Marker, at_start, by_event, State, opening, ends}
+use Rattle.model.specs.Runs.{runs, end, Marker, at_start, by_event, State, opening}
 use Rattle.model.specs.Unfolding.{UnfoldedCondition, ordinary, copy, users, unfolded_conditions, basic}
 use Rattle.model.specs.Exchange.{exchanged}
-use Rattle.model.specs.Across.{run, Lifting, lifted, repeated, read_back}
+use Rattle.model.specs.Across.{Lifting, lifted, repeated, read_back}
 
 -- ---- replay
 

@@ -5,7 +5,7 @@ use mathlib.Core.List.{List, [], ◌∷◌, ◌++◌, map}
 use Prim.Native.Nat.{ℕ, ◌+◌, ◌-◌}
 use Rattle.lists.specs.Lists.{mem, all, same, count}
 use Rattle.model.specs.Net.{Net, Marking, begin, fire, Stop, stop_number, stop_condition, stop_place, stopping}
-use Rattle.model.specs.Runs.{Marker, at_start, by_event, opening, after, Played, ends, refused, replay}
+use Rattle.model.specs.Runs.{Marker, at_start, by_event, opening, Played, ends, refused, replay}
 use Rattle.model.specs.Unfolding.{origin, basic}
 use Rattle.model.specs.Numbering.{number}
 use Rattle.model.specs.Across.{Refusal, number_of, place_of, by_of, Answer, run, refusal, unfolding_refused, lift, project, exchange}

@@ -5,7 +5,6 @@ use mathlib.Core.Path.{◌≡◌, refl, sym, subst}
 use mathlib.Core.List.{List}
 use mathlib.Core.Bool.{Bool, true, false, cond}
 use lib.ListN.{length}
-use Rattle.lists.specs.Lists.{fits}
 use Rattle.words.specs.Words.{word_at}
 use Rattle.refusal.specs.declared.Judged.TheVariants.{Fine}
 use Rattle.refusal.specs.Answer.{refused_at, and_then}

@@ -1,7 +1,7 @@
 -- `rules::marking_record` meets its contract.
 use mathlib.Core.Path.{◌∙◌, sym}
 use native.Mathlib.Omega.{arith}
-use borrow.Author.Tests.{eq-eqb, ne_eqb, le-leb, lt-leb, not-true, not-false}
+use borrow.Author.Tests.{eq-eqb, ne_eqb, le-leb, lt-leb}
 use Rattle.refusal.specs.Answer.{need}
 use Rattle.rules.specs.Rules.{marking_of}
 use Rattle.records.proofs.Headers.{known}

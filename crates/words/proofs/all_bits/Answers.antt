@@ -1,6 +1,5 @@
 -- `words::all_bits` meets its contract.
 use native.Mathlib.Omega.{arith}
-use Prim.Native.Nat.{◌-◌}
 use mathlib.Core.Path.{◌∙◌, sym}
 use Rattle.words.proofs.Laws.{bits_bad, bits_on, bits_end}
 use Rattle.words.proofs.all_bits.Goals as goal

@@ -1,7 +1,6 @@
 -- `words::ascends` meets its contract.
 use Rattle.words.proofs.Laws.{rises_low, rises_on, rises_end, rises_fits}
 use native.Mathlib.Omega.{arith}
-use Prim.Native.Nat.{◌-◌}
 use mathlib.Core.Path.{◌∙◌, sym}
 use Rattle.words.proofs.ascends.Goals as goal
 

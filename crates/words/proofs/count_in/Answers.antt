@@ -2,7 +2,6 @@
 use Rattle.std.specs.Prelude.{◌≡◌}
 use Rattle.words.proofs.Laws.{count_in_one, count_in_none, count_in_end}
 use native.Mathlib.Omega.{arith}
-use Prim.Native.Nat.{◌-◌}
 use Rattle.words.proofs.count_in.Goals as goal
 
 pub loop-i-preserved : goal.loop-i-preserved

@@ -1,7 +1,6 @@
 -- `words::has` meets its contract.
 use native.Mathlib.Omega.{arith}
 use mathlib.Core.Path.{◌∙◌, sym}
-use Prim.Native.Nat.{◌-◌}
 use Rattle.words.proofs.Laws.{has_here, has_later, has_none}
 use Rattle.words.proofs.has.Goals as goal
 
