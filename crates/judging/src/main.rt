@@ -4,25 +4,25 @@
 
 ghost use Rattle.std.specs.Prelude.{◌<◌};
 
-use libc::STDOUT_FILENO;
 use refusal::Judged;
+use std::io;
 
 // One line: the number of events, or the refusal's number and place.
-fn verdict(table: &[u8]) {
+fn verdict(rt: &impl Print, table: &[u8]) -> io::Result<()> {
     let r = table::judge(table);
     match r {
         Judged::Fine(events) => {
-            io::write_all(STDOUT_FILENO, b"fine ");
-            io::print_decimal(STDOUT_FILENO, events as u64);
+            rt.write_all(b"fine ")?;
+            rt.print(events as u64)?;
         }
         Judged::Refused(refusal) => {
-            io::write_all(STDOUT_FILENO, b"refused ");
-            io::print_decimal(STDOUT_FILENO, refusal.number as u64);
-            io::write_all(STDOUT_FILENO, b" at ");
-            io::print_decimal(STDOUT_FILENO, refusal.place as u64);
+            rt.write_all(b"refused ")?;
+            rt.print(refusal.number as u64)?;
+            rt.write_all(b" at ")?;
+            rt.print(refusal.place as u64)?;
         }
     }
-    io::write_all(STDOUT_FILENO, b"\n");
+    rt.write_all(b"\n")
 }
 
 // Net A's table, byte for byte as docs/FORMAT.md has it.
@@ -31,40 +31,43 @@ fn net_a() -> [u8; 54] {
 }
 
 // Net A's table with one byte changed.
-fn changed(at: usize, value: u8)
+fn changed(rt: &impl Print, at: usize, value: u8) -> io::Result<()>
     requires { at < 54 }
 {
     let mut table = net_a();
     table[at] = value;
-    verdict(&table);
+    verdict(rt, &table)
 }
 
 // Net A's table whole, without its last byte, and none of it.
-fn cut() {
+fn cut(rt: &impl Print) -> io::Result<()> {
     let table = net_a();
-    verdict(&table);
+    verdict(rt, &table)?;
     verdict(
+        rt,
         b"\x04\x00\x01\x00\x00\x00\x01\x00\x0a\x00\x02\x00\x01\x00\x02\x00\x00\x00\x01\x00\x02\x00\x0a\x00\x02\x00\x02\x00\x01\x00\x01\x00\x02\x00\x03\x00\x08\x00\x02\x00\x01\x00\x01\x00\x03\x00\x01\x00\x02\x00\x03\x00\x00",
-    );
-    verdict(b"");
+    )?;
+    verdict(rt, b"")
 }
 
 // Net A's table with the preconditions of event 1 exchanged.
-fn turned() {
+fn turned(rt: &impl Print) -> io::Result<()> {
     let mut table = net_a();
     table[30] = 2;
     table[32] = 1;
-    verdict(&table);
+    verdict(rt, &table)
 }
 
 // Net A's table with a first event whose lists are both empty, and with one whose length is right only modulo 65,536.
-fn untouched() {
+fn untouched(rt: &impl Print) -> io::Result<()> {
     verdict(
+        rt,
         b"\x04\x00\x01\x00\x00\x00\x01\x00\x04\x00\x02\x00\x00\x00\x00\x00\x0a\x00\x02\x00\x01\x00\x02\x00\x00\x00\x01\x00\x02\x00\x0a\x00\x02\x00\x02\x00\x01\x00\x01\x00\x02\x00\x03\x00\x08\x00\x02\x00\x01\x00\x01\x00\x03\x00\x01\x00\x02\x00\x03\x00\x00\x00",
-    );
+    )?;
     verdict(
+        rt,
         b"\x04\x00\x01\x00\x00\x00\x01\x00\x04\x00\x02\x00\x00\x80\x00\x00\x0a\x00\x02\x00\x01\x00\x02\x00\x00\x00\x01\x00\x02\x00\x0a\x00\x02\x00\x02\x00\x01\x00\x01\x00\x02\x00\x03\x00\x08\x00\x02\x00\x01\x00\x01\x00\x03\x00\x01\x00\x02\x00\x03\x00\x00\x00",
-    );
+    )
 }
 
 // A table of one ordinary condition and 257 events that mark it, one event too many.
@@ -72,53 +75,68 @@ fn crowded() -> [u8; 2579] {
     let mut table = [0u8; 2579];
     table[0] = 1;
     table[2] = 1;
-    let mut k: usize = 0;
-    while k < 257 {
+    for k in 0..257usize {
         let at = 5 + 10 * k;
         table[at] = 6;
         table[at + 2] = 2;
         table[at + 6] = 1;
-        k = k + 1;
     }
     table[2577] = 3;
     table
 }
 
 // Seventeen persistent conditions, all of them preconditions of one event, one too many.
-fn greedy() {
+fn greedy(rt: &impl Print) -> io::Result<()> {
     verdict(
+        rt,
         b"\x11\x00\x01\x00\x01\x01\x01\x01\x01\x01\x01\x01\x01\x01\x01\x01\x01\x01\x01\x01\x01\x26\x00\x02\x00\x11\x00\x00\x00\x00\x00\x01\x00\x02\x00\x03\x00\x04\x00\x05\x00\x06\x00\x07\x00\x08\x00\x09\x00\x0a\x00\x0b\x00\x0c\x00\x0d\x00\x0e\x00\x0f\x00\x10\x00\x00\x00\x03\x00",
-    );
+    )
 }
 
 // Net A's table with one byte more.
-fn longer() {
+fn longer(rt: &impl Print) -> io::Result<()> {
     verdict(
+        rt,
         b"\x04\x00\x01\x00\x00\x00\x01\x00\x0a\x00\x02\x00\x01\x00\x02\x00\x00\x00\x01\x00\x02\x00\x0a\x00\x02\x00\x02\x00\x01\x00\x01\x00\x02\x00\x03\x00\x08\x00\x02\x00\x01\x00\x01\x00\x03\x00\x01\x00\x02\x00\x03\x00\x00\x00\x00",
-    );
+    )
 }
 
 // A Rule record before one ordinary condition, and cut short, of length 2, with byte 2, twice, and after the Conditions record.
-fn ruled() {
-    verdict(b"\x01\x00\x06\x00\x01\x01\x00\x01\x00\x00\x00\x00\x03\x00");
-    verdict(b"\x01\x00\x06\x00");
-    verdict(b"\x02\x00\x06\x00\x01\x00\x01\x00\x01\x00\x00\x00\x00\x03\x00");
-    verdict(b"\x01\x00\x06\x00\x02\x01\x00\x01\x00\x00\x00\x00\x03\x00");
-    verdict(b"\x01\x00\x06\x00\x01\x01\x00\x06\x00\x01\x01\x00\x01\x00\x00\x00\x00\x03\x00");
-    verdict(b"\x01\x00\x01\x00\x00\x01\x00\x06\x00\x01\x00\x00\x03\x00");
+fn ruled(rt: &impl Print) -> io::Result<()> {
+    verdict(
+        rt,
+        b"\x01\x00\x06\x00\x01\x01\x00\x01\x00\x00\x00\x00\x03\x00",
+    )?;
+    verdict(rt, b"\x01\x00\x06\x00")?;
+    verdict(
+        rt,
+        b"\x02\x00\x06\x00\x01\x00\x01\x00\x01\x00\x00\x00\x00\x03\x00",
+    )?;
+    verdict(
+        rt,
+        b"\x01\x00\x06\x00\x02\x01\x00\x01\x00\x00\x00\x00\x03\x00",
+    )?;
+    verdict(
+        rt,
+        b"\x01\x00\x06\x00\x01\x01\x00\x06\x00\x01\x01\x00\x01\x00\x00\x00\x00\x03\x00",
+    )?;
+    verdict(
+        rt,
+        b"\x01\x00\x01\x00\x00\x01\x00\x06\x00\x01\x00\x00\x03\x00",
+    )
 }
 
-fn main() {
-    cut();
-    changed(10, 7);
-    changed(12, 2);
-    changed(6, 2);
-    turned();
-    changed(52, 4);
+fn main(rt: HostRuntime) -> io::Result<()> {
+    cut(&rt)?;
+    changed(&rt, 10, 7)?;
+    changed(&rt, 12, 2)?;
+    changed(&rt, 6, 2)?;
+    turned(&rt)?;
+    changed(&rt, 52, 4)?;
     let table = crowded();
-    verdict(&table);
-    untouched();
-    greedy();
-    longer();
-    ruled();
+    verdict(&rt, &table)?;
+    untouched(&rt)?;
+    greedy(&rt)?;
+    longer(&rt)?;
+    ruled(&rt)
 }
