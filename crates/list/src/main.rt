@@ -4,12 +4,13 @@
 ghost use Rattle.lines.specs.Needs.{Ready};
 ghost use Rattle.lines.specs.declared.Place.TheVariants.{Start};
 
-use libc::STDOUT_FILENO;
 use lines::Place;
 use refusal::Judged;
+use std::io;
 
 // The listing of what was opened, written out from the start on.
 fn show<'a>(
+    rt: &impl Print,
     table: &'a [u8],
     events: usize,
     offsets: &'a [usize],
@@ -17,7 +18,7 @@ fn show<'a>(
     lifted: &'a [u16],
     end: &'a [u8],
     marking: &mut [u8],
-)
+) -> io::Result<()>
     requires { Ready table.now events offsets.now steps.now lifted.now end.now marking.old Start }
 {
     let mut text = [0u8; 2048];
@@ -27,13 +28,14 @@ fn show<'a>(
             table, events, offsets, steps, lifted, end, place, marking, &mut text,
         );
         let count = written.count;
-        io::write_all(STDOUT_FILENO, &text[0..count]);
+        rt.write_all(&text[0..count])?;
         place = written.next;
     }
+    Ok(())
 }
 
 // The listing of the bytes of the two files.
-fn list<'a>(net: &'a [u8], run: &'a [u8]) {
+fn list<'a>(rt: &impl Print, net: &'a [u8], run: &'a [u8]) -> io::Result<()> {
     let mut steps = [0u16; 4096];
     let mut lifted = [0u16; 4096];
     let mut offsets = [0usize; 256];
@@ -50,12 +52,12 @@ fn list<'a>(net: &'a [u8], run: &'a [u8]) {
     );
     let answer = opened.answer;
     let Judged::Fine(count) = answer else {
-        files::refuse(answer);
-        return;
+        return files::refuse(rt, answer);
     };
     let unfolded = opened.unfolded;
     let conditions = opened.conditions;
     show(
+        rt,
         net,
         opened.events,
         &offsets,
@@ -63,13 +65,13 @@ fn list<'a>(net: &'a [u8], run: &'a [u8]) {
         &lifted[0..count],
         &end[0..unfolded],
         &mut marking[0..conditions],
-    );
+    )
 }
 
-fn main() {
+fn main(rt: HostRuntime) -> io::Result<()> {
     let mut net = [0u8; 65537];
     let mut run = [0u8; 8197];
-    let n = files::read_file(b"net.bin", &mut net);
-    let m = files::read_file(b"run.bin", &mut run);
-    list(&net[..n], &run[..m]);
+    let n = files::read_file(&rt, b"net.bin", &mut net);
+    let m = files::read_file(&rt, b"run.bin", &mut run);
+    list(&rt, &net[..n], &run[..m])
 }

@@ -4,8 +4,8 @@
 #![tactic(auto)]
 
 use conditions::ConditionOrigin;
-use libc::{STDIN_FILENO, STDOUT_FILENO};
 use refusal::{Judged, UnfoldedCondition, UnfoldedEvent};
+use std::io;
 
 // Whether an answer is this number.
 fn is_number(r: Judged, j: usize) -> bool {
@@ -64,77 +64,81 @@ fn all_back(table: &[u8], events: bool, skip: u8, count: usize) -> bool {
 }
 
 // Whether they do, in words.
-fn say_back(table: &[u8], events: bool, skip: u8, count: usize) {
+fn say_back(rt: &impl Print, table: &[u8], events: bool, skip: u8, count: usize) -> io::Result<()> {
     if all_back(table, events, skip, count) {
-        io::write_all(STDOUT_FILENO, b", all back");
+        rt.write_all(b", all back")
     } else {
-        io::write_all(STDOUT_FILENO, b", not all back");
+        rt.write_all(b", not all back")
     }
 }
 
 // The event behind the last number.
-fn last(table: &[u8], count: usize) {
+fn last(rt: &impl Print, table: &[u8], count: usize) -> io::Result<()> {
     if 0 < count {
         if count < 65537 {
             let o = events::event_origin(table, UnfoldedEvent((count - 1) as u16));
             let e = o.event;
-            io::write_all(STDOUT_FILENO, b", event ");
-            io::print_decimal(STDOUT_FILENO, e.0 as u64);
-            io::write_all(STDOUT_FILENO, b" is ");
-            io::print_decimal(STDOUT_FILENO, (count - 1) as u64);
+            rt.write_all(b", event ")?;
+            rt.print(e.0 as u64)?;
+            rt.write_all(b" is ")?;
+            rt.print((count - 1) as u64)?;
         }
     }
+    Ok(())
 }
 
 // The line of a table that unfolds to so many conditions.
-fn unfolded(table: &[u8], skip: u8, conditions: usize) {
+fn unfolded(rt: &impl Print, table: &[u8], skip: u8, conditions: usize) -> io::Result<()> {
     let r = unfolding::event_count(table);
     let count = refusal::value_of(r);
-    io::print_decimal(STDOUT_FILENO, conditions as u64);
-    io::write_all(STDOUT_FILENO, b" conditions");
-    say_back(table, false, skip, conditions);
-    io::write_all(STDOUT_FILENO, b", ");
-    io::print_decimal(STDOUT_FILENO, count as u64);
-    io::write_all(STDOUT_FILENO, b" events");
-    last(table, count);
-    say_back(table, true, skip, count);
-    io::write_all(STDOUT_FILENO, b"\n");
+    rt.print(conditions as u64)?;
+    rt.write_all(b" conditions")?;
+    say_back(rt, table, false, skip, conditions)?;
+    rt.write_all(b", ")?;
+    rt.print(count as u64)?;
+    rt.write_all(b" events")?;
+    last(rt, table, count)?;
+    say_back(rt, table, true, skip, count)?;
+    rt.write_all(b"\n")
 }
 
 // The line of one net.
-fn net(letter: u8, skip: u8, table: &[u8]) {
-    io::write_all(STDOUT_FILENO, b"net ");
-    io::write_all(STDOUT_FILENO, &[letter]);
-    io::write_all(STDOUT_FILENO, b": ");
+fn net(rt: &impl Print, letter: u8, skip: u8, table: &[u8]) -> io::Result<()> {
+    rt.write_all(b"net ")?;
+    rt.write_all(&[letter])?;
+    rt.write_all(b": ")?;
     let r = unfolding::condition_count(table);
     match r {
-        Judged::Fine(n) => unfolded(table, skip, n),
+        Judged::Fine(n) => unfolded(rt, table, skip, n),
         Judged::Refused(refusal) => {
-            io::write_all(STDOUT_FILENO, b"refused ");
-            io::print_decimal(STDOUT_FILENO, refusal.number as u64);
-            io::write_all(STDOUT_FILENO, b" at ");
-            io::print_decimal(STDOUT_FILENO, refusal.place as u64);
-            io::write_all(STDOUT_FILENO, b"\n");
+            rt.write_all(b"refused ")?;
+            rt.print(refusal.number as u64)?;
+            rt.write_all(b" at ")?;
+            rt.print(refusal.place as u64)?;
+            rt.write_all(b"\n")
         }
     }
 }
 
 // The nets one after the other.
-fn all(s: &[u8]) {
+fn all(rt: &impl Print, s: &[u8]) -> io::Result<()> {
     let mut at: usize = 0;
     while at < s.len() {
         let length = words::word(s, at + 2) as usize;
         net(
+            rt,
             words::byte(s, at),
             words::byte(s, at + 1),
             records::part_of(s, at + 4, length),
-        );
+        )?;
         at = at + 4 + length;
     }
+    Ok(())
 }
 
-fn main() {
-    let mut buffer = io::large_buffer();
-    let n = io::read_full(STDIN_FILENO, &mut buffer);
-    all(records::part_of(&buffer, 0, n));
+fn main(rt: HostRuntime) -> io::Result<()> {
+    let mut buffer = [0u8; 65536];
+    let mut input = rt.stdin();
+    let n = filling::read_full(&mut input, &mut buffer);
+    all(&rt, records::part_of(&buffer, 0, n))
 }

@@ -2,180 +2,176 @@
 // events, start and conditions with one past the last, and the run replayed from the lent marking; run by the gate.
 #![tactic(auto)]
 
-use libc::STDOUT_FILENO;
 use parts::Persistence;
 use refusal::{Judged, TableCondition, TableEvent};
+use std::io;
 
 // One number after a space.
-fn number(value: usize) {
-    io::write_all(STDOUT_FILENO, b" ");
-    io::print_decimal(STDOUT_FILENO, value as u64);
+fn number(rt: &impl Print, value: usize) -> io::Result<()> {
+    rt.write_all(b" ")?;
+    rt.print(value as u64)
 }
 
 // One answer to the end of its line: what it tells, or the refusal.
-fn tell(answer: Judged) {
-    io::write_all(STDOUT_FILENO, b": ");
+fn tell(rt: &impl Print, answer: Judged) -> io::Result<()> {
+    rt.write_all(b": ")?;
     match answer {
         Judged::Fine(value) => {
-            io::write_all(STDOUT_FILENO, b"fine");
-            number(value);
-            io::write_all(STDOUT_FILENO, b"\n");
+            rt.write_all(b"fine")?;
+            number(rt, value)?;
+            rt.write_all(b"\n")
         }
-        Judged::Refused(_) => files::refuse(answer),
+        Judged::Refused(_) => files::refuse(rt, answer),
     }
 }
 
 // A reader's walk over the records, each with its place and the place after it, up to the refusal that ends it.
-fn walk(table: &[u8]) {
+fn walk(rt: &impl Print, table: &[u8]) -> io::Result<()> {
     let mut at: usize = 0;
-    let mut left: usize = 260;
-    while 0 < left {
-        io::write_all(STDOUT_FILENO, b"record at");
-        number(at);
-        tell(reader::record_at(table, at));
+    for _ in 0..260 {
+        rt.write_all(b"record at")?;
+        number(rt, at)?;
+        tell(rt, reader::record_at(table, at))?;
         let next = reader::next_at(table, at);
         if next == at {
-            return;
+            return Ok(());
         }
         at = next;
-        left = left - 1;
     }
+    Ok(())
 }
 
 // The second record, as a reader that is moved once comes to it.
-fn second(table: &[u8]) {
-    io::write_all(STDOUT_FILENO, b"second at");
-    number(reader::second_place(table));
-    tell(reader::second(table));
+fn second(rt: &impl Print, table: &[u8]) -> io::Result<()> {
+    rt.write_all(b"second at")?;
+    number(rt, reader::second_place(table))?;
+    tell(rt, reader::second(table))
 }
 
 // One condition of a list.
-fn condition_of(part: &[u8], k: usize) {
+fn condition_of(rt: &impl Print, part: &[u8], k: usize) -> io::Result<()> {
     let b = parts::condition_in(part, k);
-    number(b.0 as usize);
+    number(rt, b.0 as usize)
 }
 
 // The conditions of a shown part, and after a bar what is told past its end.
-fn list(part: &[u8]) {
+fn list(rt: &impl Print, part: &[u8]) -> io::Result<()> {
     let count = part.len() / 2;
-    let mut k: usize = 0;
-    while k < count {
-        condition_of(part, k);
-        k = k + 1;
+    for k in 0..count {
+        condition_of(rt, part, k)?;
     }
-    io::write_all(STDOUT_FILENO, b" |");
-    condition_of(part, count);
-    io::write_all(STDOUT_FILENO, b"\n");
+    rt.write_all(b" |")?;
+    condition_of(rt, part, count)?;
+    rt.write_all(b"\n")
 }
 
 // An event that is asked for, and its two lists as parts of the table.
-fn event(table: &[u8], e: u16) {
-    io::write_all(STDOUT_FILENO, b"event");
-    number(e as usize);
-    tell(parts::asked(table, TableEvent(e)));
-    io::write_all(STDOUT_FILENO, b"pre");
-    list(parts::pre_part(table, TableEvent(e)));
-    io::write_all(STDOUT_FILENO, b"post");
-    list(parts::post_part(table, TableEvent(e)));
+fn event(rt: &impl Print, table: &[u8], e: u16) -> io::Result<()> {
+    rt.write_all(b"event")?;
+    number(rt, e as usize)?;
+    tell(rt, parts::asked(table, TableEvent(e)))?;
+    rt.write_all(b"pre")?;
+    list(rt, parts::pre_part(table, TableEvent(e)))?;
+    rt.write_all(b"post")?;
+    list(rt, parts::post_part(table, TableEvent(e)))
 }
 
 // The events up to one past the last, and the highest number.
-fn events(table: &[u8]) {
+fn events(rt: &impl Print, table: &[u8]) -> io::Result<()> {
     let r = table::event_count(table);
     let count = refusal::value_of(r);
-    let mut e: u16 = 0;
-    while e < 257 {
+    for e in 0..257 {
         if (e as usize) <= count {
-            event(table, e);
+            event(rt, table, e)?;
         }
-        e = e + 1;
     }
-    event(table, 65535);
+    event(rt, table, 65535)
 }
 
 // Whether a condition is persistent, to the end of its line.
-fn kind(answer: Persistence) {
+fn kind(rt: &impl Print, answer: Persistence) -> io::Result<()> {
     match answer {
-        Persistence::Ordinary => {
-            io::write_all(STDOUT_FILENO, b"ordinary\n");
-        }
-        Persistence::Persistent => {
-            io::write_all(STDOUT_FILENO, b"persistent\n");
-        }
-        Persistence::Refused(refusal) => files::refuse(Judged::Refused(refusal)),
+        Persistence::Ordinary => rt.write_all(b"ordinary\n"),
+        Persistence::Persistent => rt.write_all(b"persistent\n"),
+        Persistence::Refused(refusal) => files::refuse(rt, Judged::Refused(refusal)),
     }
 }
 
 // A condition that is asked for, and whether it is persistent.
-fn condition(table: &[u8], b: u16) {
-    io::write_all(STDOUT_FILENO, b"condition");
-    number(b as usize);
-    tell(parts::asked_condition(table, TableCondition(b)));
-    kind(parts::persistent(table, TableCondition(b)));
+fn condition(rt: &impl Print, table: &[u8], b: u16) -> io::Result<()> {
+    rt.write_all(b"condition")?;
+    number(rt, b as usize)?;
+    tell(rt, parts::asked_condition(table, TableCondition(b)))?;
+    kind(rt, parts::persistent(table, TableCondition(b)))
 }
 
 // The conditions up to one past the last, and the highest number.
-fn conditions(table: &[u8]) {
+fn conditions(rt: &impl Print, table: &[u8]) -> io::Result<()> {
     let r = table::condition_count(table);
     let count = refusal::value_of(r);
-    let mut b: u16 = 0;
-    while b < 257 {
+    for b in 0..257 {
         if (b as usize) <= count {
-            condition(table, b);
+            condition(rt, table, b)?;
         }
-        b = b + 1;
     }
-    condition(table, 65535);
+    condition(rt, table, 65535)
 }
 
 // The bytes of lent memory.
-fn bytes(lent: &[u8]) {
-    let mut k: usize = 0;
-    while k < lent.len() {
-        number(words::byte(lent, k) as usize);
-        k = k + 1;
+fn bytes(rt: &impl Print, lent: &[u8]) -> io::Result<()> {
+    for byte in lent {
+        number(rt, *byte as usize)?;
     }
-    io::write_all(STDOUT_FILENO, b"\n");
+    rt.write_all(b"\n")
 }
 
 // A run replayed from a lent marking, and its end in 200 lent bytes; 9 stands where nothing was written.
-fn replayed<'a>(table: &'a [u8], marking: &'a [u8], run: &'a [u16]) {
+fn replayed<'a>(
+    rt: &impl Print,
+    table: &'a [u8],
+    marking: &'a [u8],
+    run: &'a [u16],
+) -> io::Result<()> {
     let mut end = [9u8; 200];
-    io::write_all(STDOUT_FILENO, b"replay_from");
-    tell(replay::replay_from(table, marking, run, &mut end));
-    io::write_all(STDOUT_FILENO, b"end");
-    bytes(&end);
+    rt.write_all(b"replay_from")?;
+    tell(rt, replay::replay_from(table, marking, run, &mut end))?;
+    rt.write_all(b"end")?;
+    bytes(rt, &end)
 }
 
 // The same of a run's file, or its refusal.
-fn replayed_file<'a>(table: &'a [u8], marking: &'a [u8], run: &'a [u8]) {
+fn replayed_file<'a>(
+    rt: &impl Print,
+    table: &'a [u8],
+    marking: &'a [u8],
+    run: &'a [u8],
+) -> io::Result<()> {
     let mut steps = [0u16; 4096];
     let answer = runs::read_run(run, &mut steps);
     let Judged::Fine(count) = answer else {
-        io::write_all(STDOUT_FILENO, b"run");
-        tell(answer);
-        return;
+        rt.write_all(b"run")?;
+        return tell(rt, answer);
     };
-    replayed(table, marking, &steps[0..count]);
+    replayed(rt, table, marking, &steps[0..count])
 }
 
 // Everything that is told of a table.
-fn show(table: &[u8]) {
-    walk(table);
-    second(table);
-    events(table);
-    io::write_all(STDOUT_FILENO, b"start");
-    list(parts::marking_part(table));
-    conditions(table);
+fn show(rt: &impl Print, table: &[u8]) -> io::Result<()> {
+    walk(rt, table)?;
+    second(rt, table)?;
+    events(rt, table)?;
+    rt.write_all(b"start")?;
+    list(rt, parts::marking_part(table))?;
+    conditions(rt, table)
 }
 
-fn main() {
+fn main(rt: HostRuntime) -> io::Result<()> {
     let mut net = [0u8; 65537];
     let mut run = [0u8; 8197];
     let mut marking = [0u8; 300];
-    let n = files::read_file(b"net.bin", &mut net);
-    let m = files::read_file(b"run.bin", &mut run);
-    let k = files::read_file(b"marking.bin", &mut marking);
-    show(&net[..n]);
-    replayed_file(&net[..n], &marking[..k], &run[..m]);
+    let n = files::read_file(&rt, b"net.bin", &mut net);
+    let m = files::read_file(&rt, b"run.bin", &mut run);
+    let k = files::read_file(&rt, b"marking.bin", &mut marking);
+    show(&rt, &net[..n])?;
+    replayed_file(&rt, &net[..n], &marking[..k], &run[..m])
 }

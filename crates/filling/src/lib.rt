@@ -1,0 +1,22 @@
+// A buffer filled from a reader, as far as there is room and the reader gives bytes: what the programs that read files or standard input
+// stand on.
+#![tactic(auto)]
+
+ghost use Rattle.filling.specs.Counts.{IsPrefixLen};
+
+use std::io::Read;
+
+// Reads until the buffer is full, the input ends or a read fails, and returns how many bytes stand at the start of the buffer.
+pub fn read_full(reader: &mut impl Read, buffer: &mut [u8]) -> usize
+    ensures { IsPrefixLen result buffer.new }
+{
+    let mut done = 0;
+    while done < buffer.len() {
+        match reader.read(&mut buffer[done..]) {
+            Ok(0) => break,
+            Ok(n) => done += n,
+            Err(_) => break,
+        }
+    }
+    done
+}
