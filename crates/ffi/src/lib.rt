@@ -1,4 +1,4 @@
-// The calls that include/dovetrellis.h declares for C: each hands on what it is given and tells the answer.
+// The calls that include/dovetrellis.h declares for C: each hands on what it is given and tells the answer. The crate ffi_c exports them.
 #![tactic(auto)]
 
 ghost use Rattle.std.specs.Prelude.{◌≡◌, true, false, length};
@@ -33,16 +33,14 @@ use outward::Answer;
 use refusal::{TableCondition, TableEvent, UnfoldedCondition, UnfoldedEvent};
 
 // A table judged.
-#[unsafe(no_mangle)]
-pub extern "C" fn dovetrellis_judge(table: &[u8]) -> Answer
+pub fn dovetrellis_judge(table: &[u8]) -> Answer
     ensures { result ≡ answer_of (judge_of table.now) }
 {
     outward::told(table::judge(table))
 }
 
 // The numbers of conditions and of events.
-#[unsafe(no_mangle)]
-pub extern "C" fn dovetrellis_counts(table: &[u8], conditions: &mut u64, events: &mut u64) -> Answer
+pub fn dovetrellis_counts(table: &[u8], conditions: &mut u64, events: &mut u64) -> Answer
     ensures answer { result ≡ answer_of (and_then (judge_of table.now) (λ _. Fine (net_of table.now).events)) }
     ensures some { conditions.new ≡ value_or (and_then (judge_of table.now) (λ _. Fine (net_of table.now).conditions)) conditions.old }
     ensures others { events.new ≡ value_or (and_then (judge_of table.now) (λ _. Fine (net_of table.now).events)) events.old }
@@ -54,13 +52,7 @@ pub extern "C" fn dovetrellis_counts(table: &[u8], conditions: &mut u64, events:
 }
 
 // The preconditions of an event.
-#[unsafe(no_mangle)]
-pub extern "C" fn dovetrellis_pre(
-    table: &[u8],
-    event: u16,
-    out: &mut [u16],
-    count: &mut u64,
-) -> Answer
+pub fn dovetrellis_pre(table: &[u8], event: u16, out: &mut [u16], count: &mut u64) -> Answer
     ensures answer { result ≡ answer_of (preconditions_of table.now event (length out.old)) }
     ensures after { out.new ≡ preconditions_into table.now event out.old }
     ensures many { count.new ≡ value_or (preconditions_of table.now event (length out.old)) count.old }
@@ -71,13 +63,7 @@ pub extern "C" fn dovetrellis_pre(
 }
 
 // The postconditions of an event.
-#[unsafe(no_mangle)]
-pub extern "C" fn dovetrellis_post(
-    table: &[u8],
-    event: u16,
-    out: &mut [u16],
-    count: &mut u64,
-) -> Answer
+pub fn dovetrellis_post(table: &[u8], event: u16, out: &mut [u16], count: &mut u64) -> Answer
     ensures answer { result ≡ answer_of (postconditions_of table.now event (length out.old)) }
     ensures after { out.new ≡ postconditions_into table.now event out.old }
     ensures many { count.new ≡ value_or (postconditions_of table.now event (length out.old)) count.old }
@@ -88,8 +74,7 @@ pub extern "C" fn dovetrellis_post(
 }
 
 // The marking at the start.
-#[unsafe(no_mangle)]
-pub extern "C" fn dovetrellis_start(table: &[u8], out: &mut [u8]) -> Answer
+pub fn dovetrellis_start(table: &[u8], out: &mut [u8]) -> Answer
     ensures answer { result ≡ answer_of (start_of table.now (length out.old)) }
     ensures after { out.new ≡ start_into table.now out.old }
 {
@@ -97,16 +82,14 @@ pub extern "C" fn dovetrellis_start(table: &[u8], out: &mut [u8]) -> Answer
 }
 
 // Whether an event can fire at a lent marking.
-#[unsafe(no_mangle)]
-pub extern "C" fn dovetrellis_can_fire<'a>(table: &'a [u8], marking: &'a [u8], event: u16) -> Answer
+pub fn dovetrellis_can_fire<'a>(table: &'a [u8], marking: &'a [u8], event: u16) -> Answer
     ensures { result ≡ answer_of (concession_of table.now marking.now event) }
 {
     outward::told(game::concession(table, marking, TableEvent(event)))
 }
 
 // An event fired at a lent marking, over which the new one is written.
-#[unsafe(no_mangle)]
-pub extern "C" fn dovetrellis_fire(table: &[u8], marking: &mut [u8], event: u16) -> Answer
+pub fn dovetrellis_fire(table: &[u8], marking: &mut [u8], event: u16) -> Answer
     ensures answer { result ≡ answer_of (fire_of table.now marking.old event) }
     ensures after { marking.new ≡ fired_of table.now marking.old event }
 {
@@ -114,8 +97,7 @@ pub extern "C" fn dovetrellis_fire(table: &[u8], marking: &mut [u8], event: u16)
 }
 
 // A run replayed from the table's marking.
-#[unsafe(no_mangle)]
-pub extern "C" fn dovetrellis_replay<'a>(table: &'a [u8], run: &'a [u16], end: &mut [u8]) -> Answer
+pub fn dovetrellis_replay<'a>(table: &'a [u8], run: &'a [u16], end: &mut [u8]) -> Answer
     ensures answer { result ≡ answer_of (replay_of table.now run.now (length end.old)) }
     ensures after { end.new ≡ end_of table.now run.now end.old }
 {
@@ -123,8 +105,7 @@ pub extern "C" fn dovetrellis_replay<'a>(table: &'a [u8], run: &'a [u16], end: &
 }
 
 // Two neighbouring steps of a lent run change places.
-#[unsafe(no_mangle)]
-pub extern "C" fn dovetrellis_exchange(table: &[u8], run: &mut [u16], k: u64) -> Answer
+pub fn dovetrellis_exchange(table: &[u8], run: &mut [u16], k: u64) -> Answer
     ensures answer { result ≡ answer_of (exchange_of table.now run.old k) }
     ensures after { run.new ≡ exchanged_of table.now run.old k }
 {
@@ -132,12 +113,7 @@ pub extern "C" fn dovetrellis_exchange(table: &[u8], run: &mut [u16], k: u64) ->
 }
 
 // The numbers of unfolded conditions and of unfolded events.
-#[unsafe(no_mangle)]
-pub extern "C" fn dovetrellis_unfolded_counts(
-    table: &[u8],
-    conditions: &mut u64,
-    events: &mut u64,
-) -> Answer
+pub fn dovetrellis_unfolded_counts(table: &[u8], conditions: &mut u64, events: &mut u64) -> Answer
     ensures answer { result ≡ answer_of (unfolding_of table.now (Fine (basic (net_of table.now)).events)) }
     ensures some { conditions.new ≡ value_or (unfolding_of table.now (Fine (basic (net_of table.now)).conditions)) conditions.old }
     ensures others { events.new ≡ value_or (unfolding_of table.now (Fine (basic (net_of table.now)).events)) events.old }
@@ -149,8 +125,7 @@ pub extern "C" fn dovetrellis_unfolded_counts(
 }
 
 // The event and the markers behind an unfolded event.
-#[unsafe(no_mangle)]
-pub extern "C" fn dovetrellis_event_origin(
+pub fn dovetrellis_event_origin(
     table: &[u8],
     unfolded: u16,
     markers: &mut [u32],
@@ -171,8 +146,7 @@ pub extern "C" fn dovetrellis_event_origin(
 }
 
 // The unfolded event for an event and markers.
-#[unsafe(no_mangle)]
-pub extern "C" fn dovetrellis_event_number(
+pub fn dovetrellis_event_number(
     table: &[u8],
     event: u16,
     markers: &[u32],
@@ -188,8 +162,7 @@ pub extern "C" fn dovetrellis_event_number(
 }
 
 // The condition behind an unfolded one, with the marker and the user of a copy.
-#[unsafe(no_mangle)]
-pub extern "C" fn dovetrellis_condition_origin(
+pub fn dovetrellis_condition_origin(
     table: &[u8],
     unfolded: u16,
     condition: &mut u16,
@@ -212,8 +185,7 @@ pub extern "C" fn dovetrellis_condition_origin(
 }
 
 // The unfolded condition for an ordinary condition, or for a persistent one with a marker and a user.
-#[unsafe(no_mangle)]
-pub extern "C" fn dovetrellis_condition_number(
+pub fn dovetrellis_condition_number(
     table: &[u8],
     condition: u16,
     copy: bool,
@@ -236,8 +208,7 @@ pub extern "C" fn dovetrellis_condition_number(
 }
 
 // The preconditions of an unfolded event.
-#[unsafe(no_mangle)]
-pub extern "C" fn dovetrellis_unfolded_pre(
+pub fn dovetrellis_unfolded_pre(
     table: &[u8],
     unfolded: u16,
     out: &mut [u16],
@@ -253,8 +224,7 @@ pub extern "C" fn dovetrellis_unfolded_pre(
 }
 
 // The postconditions of an unfolded event.
-#[unsafe(no_mangle)]
-pub extern "C" fn dovetrellis_unfolded_post(
+pub fn dovetrellis_unfolded_post(
     table: &[u8],
     unfolded: u16,
     out: &mut [u16],
@@ -270,8 +240,7 @@ pub extern "C" fn dovetrellis_unfolded_post(
 }
 
 // The unfolded marking at the start.
-#[unsafe(no_mangle)]
-pub extern "C" fn dovetrellis_unfolded_start(table: &[u8], out: &mut [u8]) -> Answer
+pub fn dovetrellis_unfolded_start(table: &[u8], out: &mut [u8]) -> Answer
     ensures answer { result ≡ answer_of (unfolded_start_of table.now (length out.old)) }
     ensures after { out.new ≡ unfolded_started_of table.now out.old }
 {
@@ -279,12 +248,7 @@ pub extern "C" fn dovetrellis_unfolded_start(table: &[u8], out: &mut [u8]) -> An
 }
 
 // An unfolded event fired at a lent unfolded marking, over which the new one is written.
-#[unsafe(no_mangle)]
-pub extern "C" fn dovetrellis_unfolded_fire(
-    table: &[u8],
-    marking: &mut [u8],
-    unfolded: u16,
-) -> Answer
+pub fn dovetrellis_unfolded_fire(table: &[u8], marking: &mut [u8], unfolded: u16) -> Answer
     ensures answer { result ≡ answer_of (unfolded_fire_of table.now marking.old unfolded) }
     ensures after { marking.new ≡ unfolded_fired_of table.now marking.old unfolded }
 {
@@ -292,8 +256,7 @@ pub extern "C" fn dovetrellis_unfolded_fire(
 }
 
 // A run lifted to one of the unfolding.
-#[unsafe(no_mangle)]
-pub extern "C" fn dovetrellis_lift<'a>(table: &'a [u8], run: &'a [u16], out: &mut [u16]) -> Answer
+pub fn dovetrellis_lift<'a>(table: &'a [u8], run: &'a [u16], out: &mut [u16]) -> Answer
     ensures answer { result ≡ answer_of (lift_of table.now run.now (length out.old)) }
     ensures after { out.new ≡ lifted_of table.now run.now out.old }
 {
@@ -301,12 +264,7 @@ pub extern "C" fn dovetrellis_lift<'a>(table: &'a [u8], run: &'a [u16], out: &mu
 }
 
 // A run of unfolded events played and taken back to the table.
-#[unsafe(no_mangle)]
-pub extern "C" fn dovetrellis_project<'a>(
-    table: &'a [u8],
-    lifted: &'a [u16],
-    out: &mut [u16],
-) -> Answer
+pub fn dovetrellis_project<'a>(table: &'a [u8], lifted: &'a [u16], out: &mut [u16]) -> Answer
     ensures answer { result ≡ answer_of (project_of table.now lifted.now (length out.old)) }
     ensures after { out.new ≡ projected_of table.now lifted.now out.old }
 {
@@ -314,12 +272,7 @@ pub extern "C" fn dovetrellis_project<'a>(
 }
 
 // The unfolded marking that the lift of a run ends in.
-#[unsafe(no_mangle)]
-pub extern "C" fn dovetrellis_lift_end<'a>(
-    table: &'a [u8],
-    run: &'a [u16],
-    out: &mut [u8],
-) -> Answer
+pub fn dovetrellis_lift_end<'a>(table: &'a [u8], run: &'a [u16], out: &mut [u8]) -> Answer
     ensures answer { result ≡ answer_of (lift_end_of table.now run.now (length out.old)) }
     ensures after { out.new ≡ lift_ended_of table.now run.now out.old }
 {
@@ -327,12 +280,7 @@ pub extern "C" fn dovetrellis_lift_end<'a>(
 }
 
 // The unfolded marking that a run of unfolded events ends in.
-#[unsafe(no_mangle)]
-pub extern "C" fn dovetrellis_unfolded_replay<'a>(
-    table: &'a [u8],
-    lifted: &'a [u16],
-    end: &mut [u8],
-) -> Answer
+pub fn dovetrellis_unfolded_replay<'a>(table: &'a [u8], lifted: &'a [u16], end: &mut [u8]) -> Answer
     ensures answer { result ≡ answer_of (unfolded_replay_of table.now lifted.now (length end.old)) }
     ensures after { end.new ≡ unfolded_replayed_of table.now lifted.now end.old }
 {
@@ -340,8 +288,7 @@ pub extern "C" fn dovetrellis_unfolded_replay<'a>(
 }
 
 // A Run record read.
-#[unsafe(no_mangle)]
-pub extern "C" fn dovetrellis_read_run(bytes: &[u8], out: &mut [u16], count: &mut u64) -> Answer
+pub fn dovetrellis_read_run(bytes: &[u8], out: &mut [u16], count: &mut u64) -> Answer
     ensures answer { result ≡ answer_of (read_answer run_kind bytes.now (length out.old)) }
     ensures after { out.new ≡ run_into run_kind bytes.now out.old }
     ensures many { count.new ≡ value_or (read_answer run_kind bytes.now (length out.old)) count.old }
@@ -352,8 +299,7 @@ pub extern "C" fn dovetrellis_read_run(bytes: &[u8], out: &mut [u16], count: &mu
 }
 
 // A Lifted record read.
-#[unsafe(no_mangle)]
-pub extern "C" fn dovetrellis_read_lifted(bytes: &[u8], out: &mut [u16], count: &mut u64) -> Answer
+pub fn dovetrellis_read_lifted(bytes: &[u8], out: &mut [u16], count: &mut u64) -> Answer
     ensures answer { result ≡ answer_of (read_answer lifted_kind bytes.now (length out.old)) }
     ensures after { out.new ≡ run_into lifted_kind bytes.now out.old }
     ensures many { count.new ≡ value_or (read_answer lifted_kind bytes.now (length out.old)) count.old }
@@ -364,8 +310,7 @@ pub extern "C" fn dovetrellis_read_lifted(bytes: &[u8], out: &mut [u16], count: 
 }
 
 // A Run record written.
-#[unsafe(no_mangle)]
-pub extern "C" fn dovetrellis_write_run(run: &[u16], out: &mut [u8], count: &mut u64) -> Answer
+pub fn dovetrellis_write_run(run: &[u16], out: &mut [u8], count: &mut u64) -> Answer
     ensures answer { result ≡ answer_of (write_answer run.now (length out.old)) }
     ensures after { out.new ≡ record_into run_kind run.now out.old }
     ensures many { count.new ≡ value_or (write_answer run.now (length out.old)) count.old }
@@ -376,12 +321,7 @@ pub extern "C" fn dovetrellis_write_run(run: &[u16], out: &mut [u8], count: &mut
 }
 
 // A Lifted record written.
-#[unsafe(no_mangle)]
-pub extern "C" fn dovetrellis_write_lifted(
-    lifted: &[u16],
-    out: &mut [u8],
-    count: &mut u64,
-) -> Answer
+pub fn dovetrellis_write_lifted(lifted: &[u16], out: &mut [u8], count: &mut u64) -> Answer
     ensures answer { result ≡ answer_of (write_answer lifted.now (length out.old)) }
     ensures after { out.new ≡ record_into lifted_kind lifted.now out.old }
     ensures many { count.new ≡ value_or (write_answer lifted.now (length out.old)) count.old }
@@ -392,8 +332,7 @@ pub extern "C" fn dovetrellis_write_lifted(
 }
 
 // How many elements the export of a table has.
-#[unsafe(no_mangle)]
-pub extern "C" fn dovetrellis_element_count(table: &[u8], count: &mut u64) -> Answer
+pub fn dovetrellis_element_count(table: &[u8], count: &mut u64) -> Answer
     ensures answer { result ≡ answer_of (element_count_of table.now) }
     ensures many { count.new ≡ value_or (element_count_of table.now) count.old }
 {
@@ -403,13 +342,7 @@ pub extern "C" fn dovetrellis_element_count(table: &[u8], count: &mut u64) -> An
 }
 
 // An element of the export of a table.
-#[unsafe(no_mangle)]
-pub extern "C" fn dovetrellis_element(
-    table: &[u8],
-    element: u64,
-    out: &mut [u8],
-    count: &mut u64,
-) -> Answer
+pub fn dovetrellis_element(table: &[u8], element: u64, out: &mut [u8], count: &mut u64) -> Answer
     ensures answer { result ≡ answer_of (element_of table.now element (length out.old)) }
     ensures after { out.new ≡ element_written_of table.now element out.old }
     ensures many { count.new ≡ value_or (element_of table.now element (length out.old)) count.old }
@@ -420,8 +353,7 @@ pub extern "C" fn dovetrellis_element(
 }
 
 // The lossy events of a table, a byte for each event.
-#[unsafe(no_mangle)]
-pub extern "C" fn dovetrellis_lossy(table: &[u8], out: &mut [u8]) -> Answer
+pub fn dovetrellis_lossy(table: &[u8], out: &mut [u8]) -> Answer
     ensures answer { result ≡ answer_of (lossy_of table.now (length out.old)) }
     ensures after { out.new ≡ lossy_into table.now out.old }
 {
