@@ -2,13 +2,17 @@
 // stand on.
 #![tactic(auto)]
 
+ghost use Rattle.std.specs.Prelude.{take};
+ghost use Rattle.std.specs.Io.KnownBytes.{Consumes};
 ghost use Rattle.filling.specs.Counts.{IsPrefixLen};
 
 use std::io::Read;
 
-// Reads until the buffer is full, the input ends or a read fails, and returns how many bytes stand at the start of the buffer.
-pub fn read_full(reader: &mut impl Read, buffer: &mut [u8]) -> usize
-    ensures { IsPrefixLen result buffer.new }
+// Reads until the buffer is full, the input ends or a read fails, and returns how many bytes stand at the start of the buffer; they are
+// those that the reader no longer has.
+pub fn read_full<R: Read>(reader: &mut R, buffer: &mut [u8]) -> usize
+    ensures within { IsPrefixLen result buffer.new }
+    ensures bytes { Consumes (R.remaining reader.old) (R.remaining reader.new) (take result buffer.new) }
 {
     let mut done = 0;
     while done < buffer.len() {
