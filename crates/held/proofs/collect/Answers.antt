@@ -1,5 +1,4 @@
 -- `held::collect` meets its contract.
-use Prim.Native.Nat.{◌-◌}
 use Rattle.held.proofs.Words.{collect_none, collect_more, collect_over, collect_end}
 use Rattle.held.proofs.collect.Goals as goal
 use Rattle.held.proofs.collect.Goals.{then-place-lt4, else-place-lt4}

@@ -1,5 +1,4 @@
 -- `held::spread` meets its contract.
-use Prim.Native.Nat.{◌-◌}
 use Rattle.held.proofs.Copying.{spread_on, spread_end}
 use Rattle.held.proofs.spread.Goals as goal
 

@@ -1,5 +1,4 @@
 -- `held::word_from` meets its contract.
-use Prim.Native.Nat.{◌-◌}
 use native.Mathlib.Omega.{arith}
 use Rattle.held.proofs.Words.{gather_none, gather_more, gather_over, gather_end}
 use borrow.Author.Rules.{rules}
