@@ -1,7 +1,6 @@
 -- Writing computed on a few runs: what a reader would work out by hand.
-use Prim.Native.Nat.{ℕ}
 use mathlib.Core.Path.{◌≡◌, refl}
-use mathlib.Core.List.{List, [], ◌∷◌, ◌++◌}
+use mathlib.Core.List.{[], ◌∷◌, ◌++◌}
 use lib.ListN.{replicate}
 use Rattle.refusal.specs.declared.Judged.TheVariants.{Fine}
 use Rattle.refusal.specs.Answer.{refused_at, need, fitting}

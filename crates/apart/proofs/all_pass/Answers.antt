@@ -1,5 +1,4 @@
 -- `apart::all_pass` meets its contract.
-use Prim.Native.Nat.{◌-◌}
 use native.Mathlib.Omega.{arith}
 use mathlib.Core.Path.{◌∙◌, sym}
 use Rattle.apart.proofs.Walked.{one_fails, one_passes, none_left}

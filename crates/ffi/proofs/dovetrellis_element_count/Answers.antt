@@ -1,0 +1,11 @@
+-- `ffi::dovetrellis_element_count` meets its contract.
+use mathlib.Core.Path.{ap, ◌∙◌}
+use Rattle.refusal.specs.declared.Judged.{Judged}
+use Rattle.outward.specs.Told.{answer_of, value_or}
+use Rattle.ffi.proofs.dovetrellis_element_count.Goals as goal
+
+pub returns : goal.returns
+returns c = record {
+      answer = c.told.ensures ∙ ap answer_of c.element_count-judged.ensures;
+      many = c.put_value.ensures ∙ ap (λ (j : Judged). value_or j c.args.count.now) c.element_count-judged.ensures;
+    }

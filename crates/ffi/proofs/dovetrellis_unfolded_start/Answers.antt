@@ -1,0 +1,11 @@
+-- `ffi::dovetrellis_unfolded_start` meets its contract.
+use mathlib.Core.Path.{ap, ◌∙◌}
+use Rattle.outward.specs.Told.{answer_of}
+use Rattle.ffi.proofs.dovetrellis_unfolded_start.Goals as goal
+
+pub returns : goal.returns
+returns c =
+    record {
+      answer = c.told.ensures ∙ ap answer_of c.unfolded_start.ensures.answer;
+      after = c.unfolded_start.ensures.after;
+    }
