@@ -1,20 +1,10 @@
--- `ffi::dovetrellis_condition_number` meets its contract.
-use mathlib.Core.Path.{sym, ap, subst, ◌∙◌}
+-- The number of an unfolded condition stands in two bytes.
+use Rattle.std.proofs.Common.{◌<◌, sym, subst}
 use Rattle.refusal.specs.declared.Judged.{Judged}
-use Prim.Native.Nat.{◌<◌}
 use Rattle.refusal.specs.Answer.{value_of}
 use Rattle.outward.proofs.Small.{condition_small}
-use Rattle.outward.specs.Told.{answer_of, value_or}
 use Rattle.ffi.proofs.dovetrellis_condition_number.Goals as goal
 
 pub put_number-requires : goal.put_number-requires
 put_number-requires c =
     subst (λ (j : Judged). value_of j < 65536) (sym c.condition_number-judged.ensures) (condition_small _ _ _ _ _)
-
-pub returns : goal.returns
-returns c =
-    let same = c.condition_number-judged.ensures in
-    record {
-      answer = c.told.ensures ∙ ap answer_of same;
-      number = c.put_number.ensures ∙ ap (λ (j : Judged). value_or j c.args.unfolded.now) same;
-    }
