@@ -86,7 +86,7 @@ fn no_table(path: &str, given: &[u8], troubles: Vec<Trouble>) -> Stop {
 
 /// The table that the text of a file spells; a digest that it states must be its own.
 fn spelled(path: &str, given: &[u8]) -> Stopped<Source> {
-    let table = text::read(given).map_err(|troubles| no_table(path, given, troubles))?;
+    let table = text::read_all(given).map_err(|troubles| no_table(path, given, troubles))?;
     let source = Source {
         path: path.to_string(),
         bytes: table.bytes(),
@@ -259,7 +259,7 @@ impl Source {
 
     /// The index of the run of the table's text that a word names or counts, if it does; where a file has that name too, it is said what is taken.
     pub fn own_run(&self, word: &str) -> Option<usize> {
-        let index = self.table.run_called(word)?;
+        let index = self.table.run_meant(word)?;
         if Path::new(word).exists() {
             let taken = format!("'{word}' is taken as the run of {}", self.path);
             say(format!("note: {taken}; the file is './{word}'"));

@@ -320,12 +320,12 @@ impl Parser {
         Ok(List { elements, place })
     }
 
-    /// Takes the colon that a reserved word needs; one that is missing is said to be due after it.
+    /// Takes the colon that a reserved word needs.
     fn colon_after(&mut self, word: &str) -> Result<(), Trouble> {
         if self.took(&Piece::Colon) {
             return Ok(());
         }
-        self.lacking_after(word, &format!("`:` after `{word}`"))
+        self.lacking_after(word, "`:`")
     }
 
     /// Takes the colon that the name of a run needs; a run without a name may be meant where its steps seem to have begun.
@@ -468,7 +468,7 @@ impl Parser {
     /// Takes an event: its name or number, and its two lists.
     fn event(&mut self) -> Result<Statement, Trouble> {
         let place = self.place();
-        let expected = "`conditions:`, `start:`, `run`, `rule:`, `table:` or an event's name";
+        let expected = "`conditions:`, `start:`, `run`, `rule:` or an event's name";
         let written = self.written(expected, false)?;
         let label = Element {
             written,

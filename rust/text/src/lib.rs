@@ -18,7 +18,7 @@ mod words;
 pub use alike::{look_alikes, LookAlike};
 pub use digest::digest;
 pub use log::{log_digest, read_log};
-pub use meaning::read;
+pub use meaning::{read, read_all};
 pub use near::nearest;
 pub use records::{persistent_preconditions, steps_of, Part};
 pub use show::{list_text, set_text};

@@ -291,10 +291,20 @@ pub fn decoded(bytes: &[u8]) -> Result<&str, Trouble> {
     trouble(place, "text in UTF-8", found)
 }
 
-/// The table and the runs that a text states, or all that keeps it from being turned into records, in the order of the text. What a
-/// statement in error may state is not missed elsewhere.
-pub fn read(bytes: &[u8]) -> Result<Table, Vec<Trouble>> {
-    let text = decoded(bytes).map_err(|trouble| vec![trouble])?;
+/// The table and the runs that a text states, or what first keeps it from being turned into records.
+pub fn read(bytes: &[u8]) -> Result<Table, Trouble> {
+    let meaning = meaning_of(decoded(bytes)?);
+    meaning.troubles.first_or(meaning.table)
+}
+
+/// The table and the runs that a text states, or all that keeps it from being turned into records, in the order of the text.
+pub fn read_all(bytes: &[u8]) -> Result<Table, Vec<Trouble>> {
+    let meaning = meaning_of(decoded(bytes).map_err(|trouble| vec![trouble])?);
+    meaning.troubles.or(meaning.table)
+}
+
+/// What a text states, and what keeps it from being turned into records. What a statement in error may state is not missed elsewhere.
+fn meaning_of(text: &str) -> Meaning {
     let Stated {
         statements,
         mut troubles,
@@ -320,5 +330,5 @@ pub fn read(bytes: &[u8]) -> Result<Table, Vec<Trouble>> {
     };
     meaning.state_all(&statements);
     meaning.fill(&statements);
-    meaning.troubles.or(meaning.table)
+    meaning
 }

@@ -115,8 +115,13 @@ impl Table {
         run_name(&self.runs, index)
     }
 
+    /// The place among the runs of the one that is called so.
+    pub fn run_called(&self, name: &str) -> Option<usize> {
+        (0..self.runs.len()).find(|index| self.run_name(*index) == name)
+    }
+
     /// The place among the runs of the one that is called so, or has that number; no name is a number.
-    pub fn run_called(&self, word: &str) -> Option<usize> {
+    pub fn run_meant(&self, word: &str) -> Option<usize> {
         let is_meant = |index: &usize| self.run_name(*index) == word || index.to_string() == word;
         (0..self.runs.len()).find(is_meant)
     }

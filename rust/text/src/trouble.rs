@@ -109,6 +109,12 @@ impl Troubles {
         self.found.len() >= ENOUGH
     }
 
+    /// What was made of the text, or the first that was found to keep it from being made: what is wrong with a statement itself is found
+    /// before what is wrong with its names.
+    pub fn first_or<T>(self, made: T) -> Result<T, Trouble> {
+        self.found.into_iter().next().map_or(Ok(made), Err)
+    }
+
     /// What was made of the text, or all that keeps it from being made, in the order of the text.
     pub fn or<T>(mut self, made: T) -> Result<T, Vec<Trouble>> {
         if self.found.is_empty() {

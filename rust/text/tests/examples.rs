@@ -12,7 +12,7 @@ use text::{read, Table};
 fn example(name: &str) -> Table {
     let path = format!("{}/../../examples/{name}", env!("CARGO_MANIFEST_DIR"));
     let bytes = fs::read(&path).unwrap_or_else(|error| panic!("{path}: {error}"));
-    read(&bytes).unwrap_or_else(|troubles| panic!("{path}: {troubles:?}"))
+    read(&bytes).unwrap_or_else(|trouble| panic!("{path}: {trouble}"))
 }
 
 /// The steps of a run by its name.
@@ -212,28 +212,9 @@ fn the_page_of_the_notation() {
     let named = read(blocks[1].as_bytes()).unwrap();
     let shown = Table::of_bytes(&named.bytes()).unwrap().text();
     assert_eq!(shown, blocks[3]);
-    let misspelt = blocks[1]
-        .replace("load-key: {}", "load-key {}")
-        .replace("b-warm, key-loaded}", "b-warm, key-loded}")
-        .replace("run hasty: c", "run hasty: \u{441}");
-    let troubles = read(misspelt.as_bytes()).unwrap_err();
-    let told = troubles.iter().map(|t| format!("night.txt: {t}\n"));
-    assert_eq!(told.collect::<String>(), blocks[5]);
-    for log in [blocks[11], blocks[13]] {
-        let runs = text::read_log(log.as_bytes(), &named).unwrap().runs;
-        assert_eq!(runs[0].steps, [0, 1]);
-    }
-    let (stated, _) = text::log_digest(blocks[11].as_bytes()).unwrap();
-    assert!(text::digest(&named.bytes()).starts_with(&stated));
-    assert!(page.contains(&format!("| `table: {stated}` |")));
-}
-
-#[test]
-fn the_page_of_the_format_tells_the_digest_of_net_a() {
-    let path = format!("{}/../../docs/FORMAT.md", env!("CARGO_MANIFEST_DIR"));
-    let page = fs::read_to_string(path).unwrap();
-    let digest = text::digest(&example("net-a.txt").bytes());
-    assert!(page.contains(&format!("The digest of the table is {digest}.\n")));
+    let misspelt = blocks[1].replace("b-warm, key-loaded}", "b-warm, key-loded}");
+    let trouble = read(misspelt.as_bytes()).unwrap_err();
+    assert_eq!(format!("night.txt: {trouble}\n"), blocks[5]);
 }
 
 #[test]

@@ -1,7 +1,7 @@
 //! Runs in a text of their own, and the digests that texts state.
 
 use second::generator::Random;
-use text::{digest, log_digest, read, read_log, Log, Place, Table};
+use text::{digest, log_digest, read_all, read_log, Log, Place, Table};
 
 /// A table with names, and one without.
 const NET: &str =
@@ -11,7 +11,7 @@ const BARE: &str = "conditions: 0, 1\n0: {0} -> {1}\n1: {1} -> {0}\nstart: {0}\n
 
 /// The table of a text that must be sound.
 fn table(text: &str) -> Table {
-    read(text.as_bytes()).unwrap_or_else(|troubles| panic!("{troubles:?}\n{text}"))
+    read_all(text.as_bytes()).unwrap_or_else(|troubles| panic!("{troubles:?}\n{text}"))
 }
 
 /// The runs of a text that must be sound, for the table with names.
@@ -227,7 +227,7 @@ fn troubles_of_digests() {
         ("", "the end of the line"),
     ] {
         let text = format!("table: {stated}\n{NET}");
-        let troubles = read(text.as_bytes()).unwrap_err();
+        let troubles = read_all(text.as_bytes()).unwrap_err();
         assert_eq!(
             troubles[0].to_string(),
             format!("line 1, column 8: {due} {found}")
@@ -237,20 +237,20 @@ fn troubles_of_digests() {
             troubles[0].to_string()
         );
     }
-    let more = read(format!("{NET}table: sha256-12345678, 1").as_bytes()).unwrap_err();
+    let more = read_all(format!("{NET}table: sha256-12345678, 1").as_bytes()).unwrap_err();
     assert_eq!(
         more[0].to_string(),
         "line 6, column 23: expected the end of the line, found `,`"
     );
     let twice = format!("table: sha256-12345678\n{NET}table: sha256-12345679");
-    let twice = read(twice.as_bytes()).unwrap_err();
+    let twice = read_all(twice.as_bytes()).unwrap_err();
     assert_eq!(
         twice[0].to_string(),
         "line 7, column 1: expected the `table:` that is stated above, found another one"
     );
     assert_eq!(twice.len(), 1);
     let again = format!("table: sha256-12345678\n{NET}table: sha256-12345678");
-    assert!(read(again.as_bytes()).is_ok());
+    assert!(read_all(again.as_bytes()).is_ok());
 }
 
 #[test]

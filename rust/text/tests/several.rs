@@ -1,15 +1,15 @@
 //! Several troubles of one text: each is told, in the order of the text, and none that is only another's consequence.
 
-use text::{lines, read, read_log};
+use text::{lines, read_all, read_log};
 
 /// The troubles of a text that must be wrong, as lines.
 fn told(text: &str) -> Vec<String> {
-    lines(&read(text.as_bytes()).expect_err("this text is wrong"))
+    lines(&read_all(text.as_bytes()).expect_err("this text is wrong"))
 }
 
 /// The troubles of a text, each by its place and what is found.
 fn found(text: &str) -> Vec<String> {
-    let troubles = read(text.as_bytes()).expect_err("this text is wrong");
+    let troubles = read_all(text.as_bytes()).expect_err("this text is wrong");
     let brief = |t: &text::Trouble| format!("{}:{} {}", t.place.line, t.place.column, t.found);
     troubles.iter().map(brief).collect()
 }
@@ -213,7 +213,7 @@ fn a_likely_name_is_told_beside_each_of_the_first() {
 
 #[test]
 fn several_troubles_of_a_log() {
-    let table = read(b"conditions: a\nload: {} -> {a}\nwork: {a} -> {}\nstart: {}\n").unwrap();
+    let table = read_all(b"conditions: a\nload: {} -> {a}\nwork: {a} -> {}\nstart: {}\n").unwrap();
     let told = |text: &str| lines(&read_log(text.as_bytes(), &table).unwrap_err()).join("\n");
     assert_eq!(
         told("run a load\nrun b: laod, work; load\nrun c: wokr\nstart: {}\nrun d: {load}\nrun e: work\n"),
