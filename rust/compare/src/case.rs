@@ -14,8 +14,9 @@ use crate::elements::{any_exported_table, ask_element};
 use crate::expected::{double_word_bytes, marker_word};
 use crate::nets::{any_net, any_net_across, any_number, any_table, Asked};
 
-/// Each call as often as this says, of their sum.
-const OFTEN: [(Call, usize); 29] = [
+/// Each call as often as this says, of their sum; `lossy` takes some of the cases that are drawn for `judge`, so that the cases of all
+/// others are the same with it as without.
+const OFTEN: [(Call, usize); 28] = [
     (Call::Judge, 6),
     (Call::Counts, 3),
     (Call::Pre, 4),
@@ -44,7 +45,6 @@ const OFTEN: [(Call, usize); 29] = [
     (Call::WriteLifted, 2),
     (Call::ElementCount, 2),
     (Call::Element, 8),
-    (Call::Lossy, 4),
 ];
 
 /// Unfolded nets of at most this many events are walked in; in larger ones, runs are lifted.
@@ -59,11 +59,19 @@ fn any_call(random: &mut Random) -> Call {
     let mut left = random.below(sum);
     for (call, often) in OFTEN {
         if left < often {
-            return call;
+            return drawn(random, call);
         }
         left -= often;
     }
     Call::Judge
+}
+
+/// The call of a case that is drawn for a call: every other one of `judge` is one of `lossy`.
+fn drawn(random: &mut Random, call: Call) -> Call {
+    match call {
+        Call::Judge if random.below(2) == 0 => Call::Lossy,
+        call => call,
+    }
 }
 
 // ---- outputs

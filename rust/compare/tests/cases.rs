@@ -300,6 +300,37 @@ fn unfolded_runs_come_in_which_an_event_picks_itself() {
 }
 
 #[test]
+fn lossy_events_are_expected_and_what_was_missed_of_them_is_told() {
+    let table = vec![
+        3, 0, 1, 0, 0, 0, 1, 10, 0, 2, 0, 1, 0, 2, 0, 0, 0, 1, 0, 2, 0, 10, 0, 2, 0, 2, 0, 1, 0, 1,
+        0, 2, 0, 0, 0, 2, 0, 3, 0, 0, 0,
+    ];
+    let mut request = Request::new(Call::Lossy, &table);
+    request.lent = vec![9; 3];
+    let reply = expected(&request);
+    assert_eq!((reply.number, &reply.lent[..]), (0, &[1, 0, 9][..]));
+    let mut tally = Tally::default();
+    tally.count(&request, &reply);
+    let missed = tally.missed(Some(Call::Lossy));
+    let is_missed = |words: &str| missed.contains(&format!("lossy never met an event '{words}'"));
+    assert!(!is_missed("lossy") && !is_missed("for no other"));
+    assert!(is_missed("unchanged") && is_missed("once"));
+    request.lent = vec![9];
+    assert_eq!(expected(&request).number, 16);
+}
+
+#[test]
+fn lossy_events_come_and_each_reason_that_alone_spares_one() {
+    let mut tally = Tally::default();
+    for request in cases_of([Call::Lossy, Call::Lossy]).take(400) {
+        tally.count(&request, &expected(&request));
+    }
+    let missed = tally.missed(Some(Call::Lossy));
+    let of_events = missed.iter().filter(|line| line.contains("an event"));
+    assert_eq!(of_events.count(), 0, "{missed:?}");
+}
+
+#[test]
 fn elements_come_of_every_group_and_past_the_last() {
     let groups = [
         "<pnml xmlns",
