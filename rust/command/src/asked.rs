@@ -3,7 +3,9 @@
 use std::path::Path;
 
 use crate::files::meant;
+use crate::files::STANDARD_INPUT;
 use crate::help::{help_of, COMMANDS, HELP};
+use crate::next;
 use crate::stop::{Stop, Stopped};
 
 /// How a listing is written: as the proved program writes it, by names, or as JSON.
@@ -117,7 +119,7 @@ fn no_option<T>(word: &str, options: &Options) -> Stopped<T> {
     let near = text::nearest(word, known).filter(|_| word.starts_with("--"));
     let more = match near {
         Some(near) => meant(Some(near.to_string())),
-        None => format!("; a file of that name is './{word}', or comes after '--'"),
+        None => format!("; a file of that name is './{word}'"),
     };
     wrong(format!("there is no option '{word}' here{more}"))
 }
@@ -164,7 +166,10 @@ impl Words {
         if self.value(name).is_some() {
             return wrong(format!("{name} is there twice"));
         }
-        let missing = || Stop::Use(format!("nothing comes after {name}"));
+        let missing = || match name {
+            "-o" => Stop::Use("a folder is missing after -o".to_string()),
+            _ => Stop::Use(format!("nothing comes after {name}")),
+        };
         let value = inner.or_else(|| rest.next().cloned()).ok_or_else(missing)?;
         self.values.push((name.to_string(), value));
         Ok(())
@@ -195,6 +200,26 @@ impl Words {
     /// There are no more words than so many.
     fn at_most(&self, count: usize) -> Stopped<()> {
         nothing_after(self.from(count))
+    }
+
+    /// Where no option of its own stands there, a command that was there before takes the words that it took; the next version's takes
+    /// more runs, and the standard input as a file.
+    fn held_to(&self, command: &str) -> Stopped<()> {
+        if next::is_asked() || !self.flags.is_empty() {
+            return Ok(());
+        }
+        let (most, files) = match command {
+            "list" => (2, self.from(0)),
+            "judge" => (1, self.from(0)),
+            "witness" => (2, self.plain.get(..1).unwrap_or_default()),
+            "unfold" | "export" | "pack" => (1, self.from(0)),
+            "show" => (usize::MAX, self.from(0)),
+            _ => return Ok(()),
+        };
+        if files.iter().any(|word| word == STANDARD_INPUT) {
+            return wrong("'-' is no file; the standard input is /dev/stdin");
+        }
+        self.at_most(most)
     }
 }
 
@@ -243,6 +268,7 @@ fn options_of(command: &str) -> Options {
 /// What the words after a command ask for.
 fn asked_of(command: &str, rest: &[String]) -> Stopped<Asked> {
     let words = Words::parted(rest, &options_of(command))?;
+    words.held_to(command)?;
     match command {
         "list" => Ok(asked_list(&words)),
         "pack" => {

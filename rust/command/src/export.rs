@@ -12,6 +12,7 @@ use crate::list::refusal_of;
 use crate::lister::{not_run, Folder};
 use crate::lossy::lossy_events;
 use crate::names::some_of;
+use crate::next;
 use crate::played::library_for;
 use crate::progress::{grouped, Line};
 use crate::source::{self, Source};
@@ -177,10 +178,13 @@ pub fn lacking(table: &Source, lossy: &[u16]) -> Option<String> {
     })
 }
 
-/// Writes the net of an accepted table, and notes on the error output what is not in it.
+/// Writes the net of an accepted table; the next version notes on the error output what is not in it.
 fn written_with_note(table: &Source, out: &mut impl Write) -> Stopped<()> {
     let mut library = library_for(table)?;
-    let lossy = lossy_events(&mut library, table)?;
+    let lossy = match next::is_asked() {
+        true => lossy_events(&mut library, table)?,
+        false => Vec::new(),
+    };
     written(&mut library, table, out)?;
     out.flush()?;
     if let Some(note) = lacking(table, &lossy) {

@@ -4,21 +4,21 @@
 pub const HELP: &str = "\
 dovetrellis: net tables with persistent conditions
 
-  dovetrellis list [TABLE [RUN...]] [--names] [--json]
-                                  list a run: the start, each step with its event, its unfolded
+  dovetrellis list [TABLE [RUN]]  list a run: the start, each step with its event, its unfolded
                                   event and the marking after it, and the end in the unfolded net,
-                                  as the proved program writes it; several runs are listed one after
-                                  another. Without RUN, the text's first run; without TABLE,
-                                  examples/net-a.txt. A - stands where nothing holds. --names lists
-                                  by names, tables of any size, a run that is refused up to the step
-                                  that is, and one that plays but does not lift
+                                  as the proved program writes it. A - stands where nothing holds.
+                                  --names lists by names, tables of any size, a run that is refused
+                                  up to the step that is, and one that plays but does not lift; with
+                                  it and with --json several runs are listed one after another.
+                                  Without RUN, the text's first run. Without TABLE: examples/net-a.txt
   dovetrellis judge TABLE [RUN...] [--strict] [--json]
-                                  judge a table, tell its digest, count its unfolding, name the
-                                  events whose repeats the unfolded net may lack, warn of what looks
-                                  like a slip, and try the runs: those given, or all that stand with
-                                  it in a text. The exit status tells of the table alone; with
+                                  judge a table, count its unfolding, and try the runs that stand
+                                  with it in a text; the exit status tells of the table alone. With
                                   --strict it is 1 too where a run is refused, which one that only
-                                  plays is not
+                                  plays is not, and more is told: the table's digest, the events
+                                  whose repeats the unfolded net may lack, what looks like a slip,
+                                  and how many runs fare how. With it and with --json RUN may be
+                                  given, and then those runs are tried
   dovetrellis replay TABLE [RUN...]
                                   play runs in the table alone: each step with its event and what
                                   holds after it. Without RUN, the text's first run
@@ -39,21 +39,18 @@ dovetrellis: net tables with persistent conditions
                                   the counts
   dovetrellis export TABLE        write the unfolding as a place/transition net in PNML, for a model
                                   checker: place pN is unfolded condition N, place qN has a token
-                                  while pN has none, transition tN is unfolded event N. Events that
-                                  may come again in runs which the net lacks are named on the error
-                                  output
+                                  while pN has none, transition tN is unfolded event N
   dovetrellis witness TABLE TRACE read a checker's trace back as a run of the table, with what holds
                                   at its end. TRACE is a file with transitions as t12 or 12 between
                                   blanks, commas or ends of lines; a comment goes from # to the end
                                   of its line
   dovetrellis pack FILE [-o FOLDER]
                                   turn a text table into records: NAME.net.bin, and
-                                  NAME.RUN.run.bin for each run, in FOLDER or else right here; NAME
-                                  is table where FILE is -. A FOLDER that is not there is made, the
-                                  one that it stands in is not. They are written first and judged
-                                  then, so refused ones are there too
+                                  NAME.RUN.run.bin for each run, in FOLDER or else right here. They
+                                  are written first and judged then, so refused ones are there too
   dovetrellis show TABLE [RUN...] write a table, and runs of it, as text that packs to the same bytes.
-                                  The runs of a text table are written anyway
+                                  RUN is a file of records; the runs of a text table are written
+                                  anyway
   dovetrellis install PREFIX      put the command, the archive and header for C, the manual page and
                                   the completion for bash under PREFIX, for use without the kit
   dovetrellis build [WHAT...]     build 'library', 'list' and 'export' now, or 'archive', the library
@@ -62,8 +59,9 @@ dovetrellis: net tables with persistent conditions
 
 TABLE is a file of records (docs/FORMAT.md) or a text table (docs/TEXT.md); its bytes tell which.
 RUN is the name of a run in a text table, or a file: a Run record, or text with 'run NAME: ..'
-statements or bare steps; FILE:NAME is one run of such a text. Wherever a file may stand, - is the
-standard input, once in a command. Options may stand anywhere; after -- nothing is an option.
+statements or bare steps; FILE:NAME is one run of such a text. For a trace, and wherever a file may
+stand after replay, fire, enabled and exchange, - is the standard input, once in a command. Options
+may stand anywhere; after -- nothing is an option.
 
 What is refused is answered by one line, 'refused NUMBER at PLACE', with ' by CONDITION' after it
 where a condition stopped a step (11 and 12), the lowest that did; what that means is said beside
@@ -78,6 +76,12 @@ asked for a run that plays but does not lift, or a text is no table, no run or n
 Where 'export' or 'unfold' takes over a second, a line on the error output tells how far it is, if
 that is a terminal and the answer goes elsewhere, or if DOVETRELLIS_PROGRESS is 1. TMPDIR says where
 files are kept that are needed for a moment, else /tmp.
+
+Where DOVETRELLIS_NEXT is 1 all answers are as they are meant for the next version: any number of
+runs is taken, a text of runs by every word, and - as any file; of a table that is accepted the
+digest is told, what its net may lack and what looks like a slip, of a run that is refused what came
+before the stop and what held there, of a number that is no condition its own place; a trace of
+comments alone is one of no steps; and an output that is closed before all is written is a failure.
 ";
 
 /// The commands, 'build' and 'install' among them, which the script does itself.

@@ -8,6 +8,7 @@ use wire::{Counts, Driver};
 
 use crate::json::{refused_as_json, write_line, Json};
 use crate::lossy::{self, lossy_events};
+use crate::next;
 use crate::source::{self, RunSource, Source};
 use crate::stop::{Stop, Stopped, Told};
 use crate::telling::counted;
@@ -108,30 +109,38 @@ impl Judged<'_> {
         (!counts.is_empty()).then(|| format!("runs: {}", counts.join(", ")))
     }
 
-    /// What becomes of the unfolding, and what its net may lack.
-    fn unfolds(&self) -> Vec<String> {
+    /// What becomes of the unfolding.
+    fn unfolds(&self) -> String {
         match &self.unfolding {
-            Ok(counts) => {
-                let mut lines = vec![format!("unfolds to {}", both(*counts))];
-                lines.extend(lossy::told(self.table, &self.lossy));
-                lines
-            }
-            Err(told) => vec![refused("does not unfold: ", told)],
+            Ok(counts) => format!("unfolds to {}", both(*counts)),
+            Err(told) => refused("does not unfold: ", told),
         }
     }
 
-    /// All of it in lines.
-    fn lines(&self) -> Vec<String> {
-        let mut lines = vec![format!("accepted: {}", both(self.counts))];
-        lines.push(format!("digest: {}", self.table.digest()));
-        lines.extend(self.table.rule_told().map(|rule| format!("follows {rule}")));
-        lines.extend(self.unfolds());
+    /// What the net of the unfolding may lack, where there is one, and what looks like a slip.
+    fn looks(&self) -> Vec<String> {
+        let unfolds = self.unfolding.is_ok();
+        let mut lines = match unfolds {
+            true => lossy::told(self.table, &self.lossy),
+            false => Vec::new(),
+        };
         let warnings = self.warnings.iter();
         lines.extend(warnings.map(|warning| format!("warning: {warning}")));
+        lines
+    }
+
+    /// The judge's answer, the rule, the counts and the runs in lines; where all is told, also the digest, what the net may lack, what looks
+    /// like a slip, and how many runs fare how.
+    fn lines(&self, is_all: bool) -> Vec<String> {
+        let mut lines = vec![format!("accepted: {}", both(self.counts))];
+        lines.extend(is_all.then(|| format!("digest: {}", self.table.digest())));
+        lines.extend(self.table.rule_told().map(|rule| format!("follows {rule}")));
+        lines.push(self.unfolds());
+        lines.extend(is_all.then(|| self.looks()).unwrap_or_default());
         for (run, trial) in &self.runs {
             lines.push(format!("{}: {}", run.called, fares(self.table, trial)));
         }
-        lines.extend(self.summary());
+        lines.extend(self.summary().filter(|_| is_all));
         lines
     }
 
@@ -190,7 +199,7 @@ fn run_json(run: &RunSource, trial: &Trial) -> Json {
 }
 
 /// Judges a table and tries the runs that are given, or else those that stand with it. The status tells of the table, and where it is
-/// asked for of the runs too.
+/// asked for of the runs too; then all is told.
 pub fn judge(
     path: &str,
     runs: &[String],
@@ -207,7 +216,10 @@ pub fn judge(
     })?;
     match json {
         true => write_line(&judged.json(), out)?,
-        false => writeln!(out, "{}", judged.lines().join("\n"))?,
+        false => {
+            let lines = judged.lines(strict || next::is_asked());
+            writeln!(out, "{}", lines.join("\n"))?
+        }
     }
     match strict && judged.refused() > 0 {
         true => Err(Stop::Answered),

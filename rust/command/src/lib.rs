@@ -18,6 +18,7 @@ pub mod listed;
 pub mod lister;
 pub mod lossy;
 pub mod names;
+pub mod next;
 pub mod pack;
 pub mod played;
 pub mod progress;

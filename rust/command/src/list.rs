@@ -9,6 +9,7 @@ use crate::before::story;
 use crate::json::{refused_as_json, write_line};
 use crate::listed::{write_all, Listed};
 use crate::lister::listing;
+use crate::next;
 use crate::played::library_for;
 use crate::source::{self, RunSource, Source};
 use crate::stop::{Stop, Stopped, Told};
@@ -43,9 +44,13 @@ fn written(table: &Source, run: &[u8]) -> Stopped<String> {
 /// The most bytes of a table that the program takes.
 const MOST_TABLE: usize = 65_536;
 
-/// A refusal of the table by the program, told with what else serves: other words take larger tables, and play what does not unfold.
+/// A refusal of the table by the program; in the next version with what else serves: other words take larger tables, and play what does
+/// not unfold.
 fn told_by_program(table: &Source, refusal: Refusal) -> Told {
     let told = table.told(refusal);
+    if !next::is_asked() {
+        return told;
+    }
     let what = match refusal.number {
         13 | 14 => format!("{}; 'list --names' lists its runs all the same", told.what),
         19 if table.bytes.len() > MOST_TABLE => format!(
@@ -115,7 +120,10 @@ pub fn list(table: Option<&str>, runs: &[String], form: Form, out: &mut impl Wri
         Form::Json => write_json(&table, &runs, out),
         Form::Program => {
             let listed = |run: &RunSource| listed(&table, run);
-            let story = |run: &RunSource, told: &Told| story(&table, run, told);
+            let story = |run: &RunSource, told: &Told| match next::is_asked() {
+                true => story(&table, run, told),
+                false => Ok(String::new()),
+            };
             write_all(&runs, listed, story, out)
         }
     }

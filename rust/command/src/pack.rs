@@ -7,8 +7,9 @@ use std::path::Path;
 use text::{Place, Run, Table};
 
 use crate::files::{meant, near, plain, STANDARD_INPUT};
+use crate::next;
 use crate::played::{library_for, steps_of};
-use crate::source::{self, read_text, RunSource, Source};
+use crate::source::{self, read_run, read_text, RunSource, Source};
 use crate::stop::{Stop, Stopped};
 
 /// What the files of a table are called that comes through the standard input.
@@ -32,7 +33,7 @@ fn may_be_made(folder: &str) -> Stopped<()> {
     )))
 }
 
-/// Makes the folder if it is not there, and says so.
+/// Makes the folder if it is not there, and those on the way to it; in the next version it alone, and says so.
 fn have_folder(folder: &str, out: &mut impl Write) -> Stopped<()> {
     let path = Path::new(folder);
     if path.is_dir() {
@@ -43,6 +44,9 @@ fn have_folder(folder: &str, out: &mut impl Write) -> Stopped<()> {
     }
     if folder.is_empty() {
         return Err(Stop::Failed("the name of the folder is empty".to_string()));
+    }
+    if !next::is_asked() {
+        return fs::create_dir_all(path).map_err(|error| no_folder(folder, plain(&error)));
     }
     may_be_made(folder)?;
     fs::create_dir(path).map_err(|error| no_folder(folder, plain(&error)))?;
@@ -66,14 +70,16 @@ fn stem_of(path: &str) -> String {
     }
 }
 
-/// Turns a text table into records, as written, and tells the table's digest; then the library judges them.
+/// Turns a text table into records, as written; then the library judges them. In the next version the table's digest is told too.
 pub fn pack(path: &str, folder: Option<&str>, out: &mut impl Write) -> Stopped<()> {
     let folder = folder.unwrap_or(".");
     let table = read_text(path)?;
     let stem = stem_of(path);
     have_folder(folder, out)?;
     write(folder, &format!("{stem}.net.bin"), &table.bytes, out)?;
-    writeln!(out, "digest: {}", table.digest())?;
+    if next::is_asked() {
+        writeln!(out, "digest: {}", table.digest())?;
+    }
     for (index, run) in table.table.runs.iter().enumerate() {
         let name = table.table.run_name(index);
         write(folder, &format!("{stem}.{name}.run.bin"), &run.bytes(), out)?;
@@ -91,6 +97,9 @@ pub fn pack(path: &str, folder: Option<&str>, out: &mut impl Write) -> Stopped<(
 fn runs_of_files(table: &Source, asked: &[String]) -> Stopped<Vec<RunSource>> {
     let is_file = |word: &&String| table.own_run(word).is_none();
     let files: Vec<String> = asked.iter().filter(is_file).cloned().collect();
+    if !next::is_asked() {
+        return files.iter().map(|file| read_run(file)).collect();
+    }
     match files.is_empty() {
         true => Ok(Vec::new()),
         false => table.asked_runs(&files),
@@ -108,7 +117,7 @@ fn add_run(table: &mut Table, name: Option<String>, steps: Vec<u16>) {
     });
 }
 
-/// Writes a table and runs of it as text; where there are runs, with the digest of the table that they are for.
+/// Writes a table and runs of it as text; in the next version, where there are runs, with the digest of the table that they are for.
 pub fn show(path: &str, runs: &[String], out: &mut impl Write) -> Stopped<()> {
     let mut table = source::read_before_runs(path, runs)?;
     let runs = runs_of_files(&table, runs)?;
@@ -117,7 +126,7 @@ pub fn show(path: &str, runs: &[String], out: &mut impl Write) -> Stopped<()> {
         let steps = steps_of(&mut library, &table, &run)?;
         add_run(&mut table.table, run.name, steps);
     }
-    if !table.table.runs.is_empty() {
+    if next::is_asked() && !table.table.runs.is_empty() {
         table.table.digest = Some((table.digest(), Place::default()));
     }
     Ok(out.write_all(table.table.text().as_bytes())?)

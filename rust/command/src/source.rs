@@ -127,6 +127,29 @@ pub fn read(path: &str) -> Stopped<Source> {
     })
 }
 
+/// The run of a record file.
+pub fn read_run(path: &str) -> Stopped<RunSource> {
+    let bytes = bytes_of(path)?;
+    if text::is_text(&bytes) {
+        let what = "is text; a run is a record file, or the name of a run in a text table";
+        return Err(Stop::Use(format!("{path} {what}")));
+    }
+    recorded(called(path), bytes)
+}
+
+/// The run of the record that a file holds.
+fn recorded(path: &str, bytes: Vec<u8>) -> Stopped<RunSource> {
+    asked_with(path, &bytes)?;
+    Ok(RunSource {
+        called: path.to_string(),
+        name: None,
+        path: path.to_string(),
+        steps: text::steps_of(&bytes).unwrap_or_default(),
+        bytes,
+        places: Vec::new(),
+    })
+}
+
 /// The table of a file that another word comes after, a run or an event; where that word is a file and the table none, the two are likely
 /// exchanged.
 pub fn read_before(path: &str, next: Option<&str>, what: &str) -> Stopped<Source> {
@@ -207,15 +230,7 @@ impl Source {
         if text::is_text(&bytes) {
             return self.runs_of_log(path, &bytes);
         }
-        asked_with(path, &bytes)?;
-        Ok(vec![RunSource {
-            called: path.to_string(),
-            name: None,
-            path: path.to_string(),
-            steps: text::steps_of(&bytes).unwrap_or_default(),
-            bytes,
-            places: Vec::new(),
-        }])
+        Ok(vec![recorded(path, bytes)?])
     }
 
     /// What the table's runs are called.

@@ -7,6 +7,7 @@ use wire::Refusal;
 use crate::errors::{put, say};
 use crate::files::plain;
 use crate::help::HELP;
+use crate::next;
 
 /// A refusal in words: what its number means, and what its place is.
 #[derive(Clone, Debug, PartialEq, Eq)]
@@ -45,7 +46,7 @@ pub enum Stop {
     Failed(String),
     /// The answer that was written says already what is refused.
     Answered,
-    /// The reader of the answer is gone before all of it was written.
+    /// The reader of the answer is gone before all of it was written; only in the next version is that said, and a failure.
     Unread,
 }
 
@@ -69,7 +70,8 @@ impl Stop {
             Stop::Failed(line) => say(line),
             Stop::Use(line) => say(format!("{line}\n'dovetrellis help' tells the commands")),
             Stop::Unasked => put(HELP),
-            Stop::Unread => say(UNREAD),
+            Stop::Unread if next::is_asked() => say(UNREAD),
+            Stop::Unread => {}
             Stop::Answered => {}
         }
     }
@@ -78,6 +80,7 @@ impl Stop {
     pub fn status(&self) -> u8 {
         match self {
             Stop::Refused(_) | Stop::Withheld(_) | Stop::Text(_) | Stop::Answered => 1,
+            Stop::Unread if !next::is_asked() => 0,
             Stop::Use(_) | Stop::Unasked | Stop::Failed(_) | Stop::Unread => 2,
         }
     }

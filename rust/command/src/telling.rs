@@ -4,6 +4,7 @@ use text::{Event, Listed, Part, PAPER};
 use wire::{Failure, Refusal};
 
 use crate::files::{begins_with, why_records, RUN_KINDS, TABLE_KINDS};
+use crate::next;
 use crate::source::{RunSource, Source, MOST_STEPS};
 use crate::stop::{Stop, Told};
 
@@ -299,11 +300,11 @@ impl Source {
         }
     }
 
-    /// A refusal of the table, told; a number that is no condition is told by its own place in the text.
+    /// A refusal of the table, told; in the next version a number that is no condition is told by its own place in the text.
     pub fn told(&self, refusal: Refusal) -> Told {
         let offset = refusal.place as usize;
         let element = match (self.is_text, refusal.number) {
-            (true, 5) => self.no_condition(offset),
+            (true, 5) if next::is_asked() => self.no_condition(offset),
             _ => None,
         };
         let (what, place) = match element {

@@ -3,6 +3,7 @@
 use text::{quoted, Place, Trouble};
 
 use crate::files::{self, bytes_of, looks_like};
+use crate::next;
 use crate::stop::{Stop, Stopped};
 
 /// A trace as it is given.
@@ -89,7 +90,10 @@ fn steps_of(text: &str) -> Result<Vec<(u16, Place)>, Trouble> {
         .collect()
 }
 
-/// What is said of a text with neither a transition nor a comment: a trace of no steps says by a comment that it is one.
+/// What is said of a text without a transition.
+const NO_STEP: &str = "no transition stands in it, so there is no run to tell";
+
+/// What the next version says of a text with neither a transition nor a comment: a trace of no steps says by a comment that it is one.
 const NOTHING: &str = "nothing stands in it; a trace has transitions, as t12 or 12, and one without a step has a comment, as \
                        '# broken at the start'";
 
@@ -112,8 +116,10 @@ pub fn read(given: &str) -> Stopped<Trace> {
     }
     let steps = steps_of(&String::from_utf8_lossy(&bytes));
     let steps = steps.map_err(|trouble| wrong(trouble.to_string()))?;
-    if steps.is_empty() && !bytes.contains(&b'#') {
-        return Err(wrong(NOTHING.to_string()));
+    match (steps.is_empty(), next::is_asked()) {
+        (true, false) => return Err(wrong(NO_STEP.to_string())),
+        (true, true) if !bytes.contains(&b'#') => return Err(wrong(NOTHING.to_string())),
+        _ => {}
     }
     let (steps, places) = steps.into_iter().unzip();
     Ok(Trace {

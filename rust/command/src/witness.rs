@@ -5,6 +5,7 @@ use std::io::Write;
 use text::Run;
 use wire::{Answer, Driver, Failure, Refusal};
 
+use crate::next;
 use crate::source::{self, Source, MOST_STEPS};
 use crate::stop::{Stop, Stopped, Told};
 use crate::telling::{counted, events_of, held, meaning_with, stopped_by};
@@ -111,8 +112,8 @@ fn projected(library: &mut Driver, table: &Source, trace: &Trace) -> Stopped<Run
     }
 }
 
-/// Writes the run of a table that a trace is a run of in the exported net, with the digest of the table that it is for, and what holds
-/// at its end.
+/// Writes the run of a table that a trace is a run of in the exported net, and what holds at its end; in the next version before it the
+/// digest of the table that it is for.
 pub fn witness(table: &str, trace: &str, out: &mut impl Write) -> Stopped<()> {
     let table = source::read(table)?;
     let trace = trace::read(trace)?;
@@ -123,7 +124,9 @@ pub fn witness(table: &str, trace: &str, out: &mut impl Write) -> Stopped<()> {
     replayed.map_err(|failure| table.failed(failure))?;
     let steps = counted(run.steps.len() as u64, "step");
     let ends = table.table.set(&held(&end));
-    writeln!(out, "table: {}", table.digest())?;
+    if next::is_asked() {
+        writeln!(out, "table: {}", table.digest())?;
+    }
     writeln!(out, "{}", table.table.run_text(&run))?;
     Ok(writeln!(out, "# {steps}, ends in {ends}")?)
 }

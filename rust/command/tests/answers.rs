@@ -88,29 +88,25 @@ fn help_and_wrong_use() {
         (&["examine"][..], "there is no command 'examine'"),
         (&["-v"], "there is no command '-v' and no such option"),
         (&["net-a.txt"], "there is no command 'net-a.txt'; for the file: 'judge net-a.txt'"),
-        (&["list", "-v", "net-a.txt"], "there is no option '-v' here; a file of that name is './-v', or comes after '--'"),
-        (&["pack", "-v", "net-a.txt"], "there is no option '-v' here; a file of that name is './-v', or comes after '--'"),
+        (&["list", "-v", "net-a.txt"], "there is no option '-v' here; a file of that name is './-v'"),
+        (&["pack", "-v", "net-a.txt"], "there is no option '-v' here; a file of that name is './-v'"),
+        (&["judge", "-"], "'-' is no file; the standard input is /dev/stdin"),
         (&["help", "list", "judge"], "'judge' is one word too many"),
         (&["judge"], "TABLE is missing"),
-        (&["judge", "net-a.txt", "x"], "'x' is neither a run nor a file; the runs of net-a.txt are: round, empty, early, unknown"),
-        (&["judge", "net-a.txt", "--stric"], "there is no option '--stric' here (is '--strict' meant?)"),
-        (&["judge", "net-a.txt", "--names"], "there is no option '--names' here; a file of that name is './--names', or comes after '--'"),
+        (&["judge", "net-a.txt", "x"], "'x' is one word too many"),
         (&["export"], "TABLE is missing"),
         (&["export", "net-a.txt", "net-a.pnml"], "'net-a.pnml' is one word too many"),
         (&["witness"], "TABLE is missing"),
         (&["witness", "net-a.txt"], "TRACE is missing"),
-        (&["witness", "-", "-"], "'-' can be given once, as the standard input is read once"),
-        (&["witness", "net-a.txt", "-v"], "there is no option '-v' here; a file of that name is './-v', or comes after '--'"),
+        (&["witness", "-", "-"], "'-' is no file; the standard input is /dev/stdin"),
+        (&["witness", "net-a.txt", "-v"], "there is no option '-v' here; a file of that name is './-v'"),
         (&["witness", "net-a.txt", "-", "x"], "'x' is one word too many"),
-        (&["unfold", "net-a.txt", "round"], "'round' is one word too many"),
-        (&["enabled", "net-a.txt", "round", "--at", "{0}"], "a run and --at both say where; one of them will do"),
-        (&["fire", "net-a.txt", "0", "--at"], "nothing comes after --at"),
-        (&["exchange", "net-a.txt", "round", "first"], "'first' is no number of a step, counted from 0"),
-        (&["install", "here"], "only the script at the top of the sources does this"),
-        (&["pack", "net-a.txt", "-o"], "nothing comes after -o"),
+        (&["list", "a", "b", "c"], "'c' is one word too many"),
+        (&["pack", "net-a.txt", "-o"], "a folder is missing after -o"),
         (&["pack", "net-a.txt", "-o", "a", "-o", "b"], "-o is there twice"),
         (&["list", "limits-over.txt"], "limits-over.txt has no run, so RUN must be given"),
         (&["list", "net-a.txt", "rond"], "'rond' is neither a run nor a file (is 'round' meant?); the runs of net-a.txt are: round, empty, early, unknown"),
+        (&["show", "net-a.txt", "net-b.txt"], "net-b.txt is text; a run is a record file, or the name of a run in a text table"),
     ] {
         assert_eq!(ends(words, 2), format!("dovetrellis: {said}\n'dovetrellis help' tells the commands\n"));
     }
@@ -122,20 +118,19 @@ fn help_and_wrong_use() {
 fn help_tells_of_one_command() {
     let list = fine(&["help", "list"]);
     assert!(
-        list.starts_with("  dovetrellis list [TABLE [RUN...]] [--names] [--json]\n"),
+        list.starts_with("  dovetrellis list [TABLE [RUN]]  "),
         "{list}"
     );
     assert!(
-        list.contains("does not lift\n\nTABLE is a file of records"),
+        list.contains("Without TABLE: examples/net-a.txt\n\nTABLE is a file of records"),
         "{list}"
     );
     assert!(
-        list.contains("\nExit status: 0 fine;") && !list.contains("dovetrellis judge"),
+        list.contains("\nExit status: 0 fine;") && !list.contains("judge"),
         "{list}"
     );
     for command in [
-        "list", "judge", "replay", "fire", "enabled", "exchange", "unfold", "export", "witness",
-        "pack", "show",
+        "list", "judge", "unfold", "export", "witness", "pack", "show",
     ] {
         let said = fine(&["help", command]);
         assert!(
@@ -145,7 +140,7 @@ fn help_tells_of_one_command() {
         assert_eq!(fine(&[command, "--help"]), said);
         assert_eq!(fine(&[command, "net-a.txt", "-h"]), said);
     }
-    for command in ["install", "build", "help"] {
+    for command in ["build", "help"] {
         let said = fine(&["help", command]);
         assert!(
             said.starts_with(&format!("  dovetrellis {command} ")),
@@ -162,10 +157,6 @@ fn the_command_that_is_meant_is_named() {
         ("lsit", "list"),
         ("List", "list"),
         ("shwo", "show"),
-        ("reply", "replay"),
-        ("enable", "enabled"),
-        ("exchagne", "exchange"),
-        ("instal", "install"),
         ("unflod", "unfold"),
         ("exprot", "export"),
         ("witnes", "witness"),
@@ -250,11 +241,7 @@ fn refused_runs_are_told() {
     assert_eq!(
         err,
         "  what: condition 13 `reference-locked` does not hold, and the event needs it\n  \
-         where: step 11 of run `hasty`, counted from 0: event 10 `connect-b`, line 53, column 16 of changeover.txt\n  \
-         before: steps 1 to 10: open-log, set-time, load-key, set-frequency, set-power, warm-b, tune-filter, match-load, route-audio, \
-         release-a\n  \
-         held: {a-warm, b-warm, combiner-free, time-set, key-loaded, frequency-set, power-set, filter-tuned, load-matched, \
-         audio-routed, log-opened, signed-in}\n"
+         where: step 11 of run `hasty`, counted from 0: event 10 `connect-b`, line 53, column 16 of changeover.txt\n"
     );
     let (out, err) = refused(&examples, &["list", "changeover.txt", "careful"]);
     assert_eq!(out, "refused 15 at 3\n");
@@ -262,8 +249,7 @@ fn refused_runs_are_told() {
         err,
         "  what: event 0 `set-time` came before, at step 2, and marks condition 7 `time-set`, which event 10 `connect-b` uses; \
          the unfolded net has no such run\n  \
-         where: step 3 of run `careful`, counted from 0: event 0 `set-time`, line 56, column 34 of changeover.txt\n  \
-         plays: it ends in {a-feeds, b-off, time-set, log-opened, signed-in}; 'list --names' lists it\n"
+         where: step 3 of run `careful`, counted from 0: event 0 `set-time`, line 56, column 34 of changeover.txt\n"
     );
     let (out, err) = refused(&examples, &["list", "unused.txt"]);
     assert_eq!(out, "refused 13 at 0\n");
@@ -293,11 +279,17 @@ fn the_pages_show_what_the_command_writes() {
     );
     let (out, err) = refused(top, &["list", "examples/changeover.txt", "hasty"]);
     assert_eq!(out.clone() + &err, story[1]);
-    let judged = ["hand", "rack", "rack-old"];
-    for (name, block) in judged.iter().zip(story.iter().rev().take(3).rev()) {
+    for (name, block) in ["rack", "rack-old"]
+        .iter()
+        .zip(story.iter().rev().take(2).rev())
+    {
         let judged = ran_in(top, &["judge", &format!("examples/{name}.txt")]);
         assert_eq!(&judged.out, block, "{name}");
     }
+    let shown = |line: &str| format!("    {line}\n");
+    let indented: String = (out + &err).lines().map(shown).collect();
+    let readme = fs::read_to_string(top.join("README.md")).unwrap();
+    assert!(readme.contains(&indented), "{indented}");
     let readme = blocks("README.md");
     assert_eq!(readme[0], LISTING);
     let folder = Folder::new().unwrap();
@@ -308,67 +300,13 @@ fn the_pages_show_what_the_command_writes() {
     );
 }
 
-/// The lines that a page shows as typed, each with the lines that are shown as written then.
-fn typed(page: &str) -> Vec<(String, String)> {
-    let text = fs::read_to_string(Path::new(TOP).join(page)).unwrap();
-    let shown = |line: &str| line.strip_prefix("    ").map(|line| format!("{line}\n"));
-    let written = |rest: &str| rest.lines().map_while(shown).collect::<String>();
-    text.split("\n    $ ")
-        .skip(1)
-        .filter_map(|typed| typed.split_once('\n'))
-        .map(|(line, rest)| (line.to_string(), written(rest)))
-        .collect()
-}
-
-/// A machine may have no Python; then a line that needs it is not tried.
-fn can_be_typed(line: &str) -> bool {
-    let python = Command::new("python3").arg("--version").output();
-    !line.contains("| python3 ") || python.is_ok()
-}
-
-#[test]
-fn what_the_page_shows_as_typed_writes_what_it_shows() {
-    let typed = typed("README.md");
-    assert_eq!(typed.len(), 4);
-    for (line, written) in typed.into_iter().filter(|(line, _)| can_be_typed(line)) {
-        let program = env!("CARGO_BIN_EXE_dovetrellis");
-        let line = line.replace("./dovetrellis", program);
-        let mut shell = Command::new("sh");
-        shell.args(["-c", &format!("({line}) 2>&1")]);
-        let output = shell
-            .current_dir(TOP)
-            .env_remove("DOVETRELLIS_SCRIPT")
-            .output()
-            .unwrap();
-        assert_eq!(String::from_utf8_lossy(&output.stdout), written, "{line}");
-    }
-}
-
-#[test]
-fn the_version_is_told() {
-    let version = env!("CARGO_PKG_VERSION");
-    let mut command = Command::new(env!("CARGO_BIN_EXE_dovetrellis"));
-    let told = |command: &mut Command| {
-        let output = command.output().unwrap();
-        String::from_utf8(output.stdout).unwrap()
-    };
-    command.arg("--version").env_remove("DOVETRELLIS_BUILT");
-    assert_eq!(told(&mut command), format!("dovetrellis {version}\n"));
-    command.env("DOVETRELLIS_BUILT", "commit 1234567, kit 8");
-    let built = format!("dovetrellis {version} (commit 1234567, kit 8)\n");
-    assert_eq!(told(&mut command), built);
-    assert_eq!(fine(&["-V"]), fine(&["--version"]));
-}
-
 #[test]
 fn every_example_is_judged() {
     let judged = |name: &str| fine(&["judge", name]);
     assert_eq!(
         judged("net-e.txt"),
-        "accepted: 3 conditions and 3 events\n\
-         digest: sha256-288747048710d02f19b489fa46d8367e4fbcf8f9f72c3d8e016a787f8e57b1d8\n\
-         unfolds to 5 conditions and 5 events\nthe unfolded net reaches every marking that the table reaches\n\
-         run `first`: 3 steps, ends in {2}, lifts\nrun `second`: 3 steps, ends in {2}, lifts\nruns: 2 lift\n"
+        "accepted: 3 conditions and 3 events\nunfolds to 5 conditions and 5 events\n\
+         run `first`: 3 steps, ends in {2}, lifts\nrun `second`: 3 steps, ends in {2}, lifts\n"
     );
     assert!(judged("net-d.txt").contains("unfolds to 31 conditions and 1035 events\n"));
     assert!(judged("limits.txt").contains(" and 65535 events\n"));
@@ -389,9 +327,7 @@ fn every_example_is_judged() {
         ),
         "{told}"
     );
-    assert!(
-        judged("net-c.txt").ends_with("run `twice`: 2 steps, ends in {0}, lifts\nruns: 2 lift\n")
-    );
+    assert!(judged("net-c.txt").ends_with("run `twice`: 2 steps, ends in {0}, lifts\n"));
 }
 
 #[test]
@@ -418,8 +354,7 @@ fn what_is_packed_is_shown() {
     let at = folder.path();
     let example = format!("{TOP}/examples/net-a.txt");
     let ran = ran_in(at, &["pack", &example, "-o", "packed"]);
-    let written = "made the folder packed\npacked/net-a.net.bin (54 bytes)\n\
-        digest: sha256-203391a34d28a57df9cb93ca64c5bf522bddc1caab744995f97c3a715a6394e7\npacked/net-a.round.run.bin (12 bytes)\npacked/net-a.empty.run.bin (4 bytes)\n\
+    let written = "packed/net-a.net.bin (54 bytes)\npacked/net-a.round.run.bin (12 bytes)\npacked/net-a.empty.run.bin (4 bytes)\n\
         packed/net-a.early.run.bin (8 bytes)\npacked/net-a.unknown.run.bin (8 bytes)\n";
     assert_eq!((ran.status, ran.out.as_str()), (0, written), "{}", ran.err);
     let (net, round) = ("packed/net-a.net.bin", "packed/net-a.round.run.bin");
@@ -448,7 +383,7 @@ fn refusals_of_a_text_name_its_lines() {
         (
             "conditions: a\nx: {a} -> {1}\nstart: {}\n",
             "refused 5 at 5\n",
-            "event 0 `x`, line 2, column 12 of t.txt\n",
+            "event 0 `x`, line 2 of t.txt\n",
         ),
         (
             "conditions: a\n0: {} -> {}\nstart: {}\n",
@@ -458,7 +393,7 @@ fn refusals_of_a_text_name_its_lines() {
         (
             "conditions: a\nstart: {a, 7}\n",
             "refused 5 at 5\n",
-            "`start:`, line 2, column 12 of t.txt\n",
+            "`start:`, line 2 of t.txt\n",
         ),
         (
             "conditions: 0..16 [p]\n\nx: {0} -> {}\ny: {0..16} -> {}\nstart: {}\n",
@@ -473,7 +408,7 @@ fn refusals_of_a_text_name_its_lines() {
         (
             "rule: old\nconditions: a\nx: {a} -> {1}\nstart: {}\n",
             "refused 5 at 10\n",
-            "event 0 `x`, line 3, column 12 of t.txt\n",
+            "event 0 `x`, line 3 of t.txt\n",
         ),
     ] {
         folder.write("t.txt", text.as_bytes()).unwrap();
@@ -533,43 +468,38 @@ fn told_of_run(text: &str) -> (String, String, String) {
 
 #[test]
 fn a_stopped_step_is_told_by_its_condition() {
-    for (table, line, what, lines) in [
+    for (table, line, what) in [
         (
             "conditions: a, b, c [p]\nx: {a} -> {c, b}\nstart: {a, b, c}\nrun r: x\n",
             "refused 12 at 0 by 1\n",
             "  what: condition 1 `b` still holds, and the event would set it again: contact\n",
-            4,
         ),
         (
             "conditions: a, b, key-loaded [p]\nx: {a} -> {a}\ny: {a, b, key-loaded} -> {}\n\
              start: {a, b}\nrun r: x, x, y\n",
             "refused 11 at 2 by 2\n",
             "  what: condition 2 `key-loaded` does not hold, and the event needs it\n",
-            4,
         ),
         (
             "conditions: 0..3\n0: {0} -> {1}\n1: {1, 2, 3} -> {}\nstart: {0}\nrun r: 0, 1\n",
             "refused 11 at 1 by 2\n",
             "  what: condition 2 does not hold, and the event needs it\n",
-            5,
         ),
         (
             "conditions: 0..3\n0: {3} -> {0, 1, 2, 3}\nstart: {2, 1, 3}\nrun r: 0\n",
             "refused 12 at 0 by 1\n",
             "  what: condition 1 still holds, and the event would set it again: contact\n",
-            4,
         ),
         (
             "conditions: idle, on\nx: {idle} -> {on}\nstart: {}\nrun r: x\n",
             "refused 11 at 0 by 0\n",
             "  what: condition 0 `idle` does not hold, and the event needs it\n",
-            4,
         ),
     ] {
         let (out, err, judged) = told_of_run(table);
         assert_eq!(out, line);
         assert!(
-            err.starts_with(&format!("{what}  where: step ")) && err.lines().count() == lines,
+            err.starts_with(&format!("{what}  where: step ")) && err.lines().count() == 2,
             "{err}"
         );
         let both = format!("run `r`: {line}{what}  where: step ");
@@ -582,13 +512,6 @@ const PARTING: &str = "conditions: ready, sent, key [p]\n\
     send: {ready, key} -> {ready, sent}\nclear: {sent, key} -> {key}\nstart: {ready, key}\n\
     run round: send, clear\nrun idle:\n";
 
-/// What `judge` answers but for the digest, which stands on its second line and differs with the rule.
-fn without_digest(told: &str) -> String {
-    let lines = told.lines().enumerate();
-    let kept = lines.filter(|(at, line)| *at != 1 || !line.starts_with("digest: sha256-"));
-    kept.map(|(_, line)| format!("{line}\n")).collect()
-}
-
 #[test]
 fn the_rule_is_told_where_a_table_states_one() {
     let folder = Folder::new().unwrap();
@@ -598,19 +521,18 @@ fn the_rule_is_told_where_a_table_states_one() {
         assert_eq!((ran.status, ran.err.as_str()), (0, ""));
         ran.out
     };
-    let judged = |text: &str| without_digest(&ran("judge", text));
-    let bare = judged(PARTING);
+    let judged = ran("judge", PARTING);
     let accepted = "accepted: 3 conditions and 2 events\n";
-    let (first, rest) = bare.split_at(accepted.len());
+    let (first, rest) = judged.split_at(accepted.len());
     assert_eq!(first, accepted);
     let played = "run `round`: 2 steps, ends in {ready, key}, lifts\n";
     assert!(
         rest.starts_with("unfolds to ") && rest.contains(played),
         "{rest}"
     );
-    let paper = judged(&format!("rule: paper\n{PARTING}"));
+    let paper = ran("judge", &format!("rule: paper\n{PARTING}"));
     assert_eq!(paper, format!("{accepted}follows the paper's rule\n{rest}"));
-    let old = judged(&format!("{PARTING}rule: old\n"));
+    let old = ran("judge", &format!("{PARTING}rule: old\n"));
     assert!(
         old.starts_with(&format!("{accepted}follows the old rule\nunfolds to ")),
         "{old}"
@@ -651,10 +573,7 @@ fn a_table_with_a_rule_is_packed_shown_and_listed() {
         assert_eq!(fs::read(at.join("again.net.bin")).unwrap(), packed);
         let own = ran_in(at, &["show", "t.txt"]).out;
         assert!(
-            own.starts_with(&format!(
-                "table: {}\n\nrule: {rule}\n\nconditions:\n    ready\n",
-                text::digest(&packed)
-            )),
+            own.starts_with(&format!("rule: {rule}\n\nconditions:\n    ready\n")),
             "{own}"
         );
         let idle = ran_in(at, &["list", "t.txt", "idle"]);
@@ -734,8 +653,7 @@ fn a_repeat_of_records_is_told_by_numbers() {
     assert_eq!(
         err,
         "  what: event 0 came before, at step 0, and marks condition 1, which event 1 uses; the unfolded net has no such run\n  \
-         where: step 1 of twice.bin, counted from 0: event 0\n  \
-         plays: it ends in {0, 1}; 'list --names' lists it\n"
+         where: step 1 of twice.bin, counted from 0: event 0\n"
     );
 }
 
@@ -750,8 +668,7 @@ fn a_stopped_step_of_records_is_told_by_its_condition() {
     assert_eq!(
         err,
         "  what: condition 3 does not hold, and the event needs it\n  \
-         where: step 1 of early.bin, counted from 0: event 2\n  \
-         before: step 0: 0\n  held: {1, 2}\n"
+         where: step 1 of early.bin, counted from 0: event 2\n"
     );
 }
 
@@ -774,10 +691,6 @@ fn text_with_a_control_character_is_told() {
         (
             b"conditions: a\0\nstart: {}\n",
             "it is not taken as text, since byte 13 is a control character",
-        ),
-        (
-            b"conditions: a # b\x7f\nstart: {}\n",
-            "it is not taken as text, since byte 17 is a control character",
         ),
         (
             b"\xff\xfec\0o\0n\0",
@@ -856,21 +769,12 @@ fn what_cannot_be_written_is_told() {
     let packed = ran_in(folder.path(), &["pack", "net.txt"]);
     let said = "dovetrellis: ./net.net.bin cannot be written: Is a directory\n";
     assert_eq!((packed.status, packed.err.as_str()), (2, said));
+    let full = fs::File::options().write(true).open("/dev/full").unwrap();
+    let mut command = Command::new(env!("CARGO_BIN_EXE_dovetrellis"));
+    let output = command.arg("help").stdout(full).output().unwrap();
     let said = "dovetrellis: the answer cannot be written: No space left on device\n";
-    let top = Path::new(TOP).join("examples");
-    for words in [
-        &["help"][..],
-        &["judge", "rack-old.txt"],
-        &["judge", "--strict", "rack-old.txt"],
-        &["judge", "--json", "--strict", "rack-old.txt"],
-    ] {
-        let full = fs::File::options().write(true).open("/dev/full").unwrap();
-        let mut command = Command::new(env!("CARGO_BIN_EXE_dovetrellis"));
-        command.args(words).current_dir(&top).stdout(full);
-        let output = command.env_remove("DOVETRELLIS_SCRIPT").output().unwrap();
-        assert_eq!(String::from_utf8_lossy(&output.stderr), said, "{words:?}");
-        assert_eq!(output.status.code(), Some(2), "{words:?}");
-    }
+    assert_eq!(String::from_utf8_lossy(&output.stderr), said);
+    assert_eq!(output.status.code(), Some(2));
 }
 
 #[test]
@@ -878,10 +782,6 @@ fn a_step_that_is_no_event_is_told_with_the_events() {
     let folder = Folder::new().unwrap();
     for (events, said) in [
         ("", "there is no such event: the table has none\n"),
-        (
-            "x: {a} -> {}\n",
-            "there is no such event: the table has event 0 alone\n",
-        ),
         (
             "x: {a} -> {}\ny: {a} -> {}\n",
             "there is no such event: the table has events 0 to 1\n",
@@ -894,12 +794,6 @@ fn a_step_that_is_no_event_is_told_with_the_events() {
         assert!(err.contains(said), "{err}");
         let judged = ran_in(folder.path(), &["judge", "t.txt"]).out;
         assert!(judged.contains(said), "{judged}");
-        let (_, fired) = refused(folder.path(), &["fire", "t.txt", "2"]);
-        assert!(fired.contains(said), "{fired}");
-        folder.write("trace", b"t2").unwrap();
-        let (_, traced) = refused(folder.path(), &["witness", "t.txt", "trace"]);
-        let said = said.replace("the table", "the unfolding");
-        assert!(traced.contains(&said), "{traced}");
     }
 }
 

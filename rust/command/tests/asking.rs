@@ -9,6 +9,7 @@ use std::os::unix::ffi::OsStrExt;
 use std::process::Command;
 
 use command::lister::Folder;
+use command::next::VARIABLE as NEXT;
 use common::{folder_with, ran, ran_in, Ran};
 
 /// A table with a run that plays and one that is refused.
@@ -26,6 +27,7 @@ fn folder(files: &[(&str, &[u8])]) -> Folder {
 /// What comes of a command whose error output is full: its output and its exit status.
 fn ran_unheard(folder: &Folder, words: &[&str]) -> (String, i32) {
     let mut command = Command::new(env!("CARGO_BIN_EXE_dovetrellis"));
+    command.env(NEXT, "1");
     command.args(words).current_dir(folder.path());
     command.env_remove("DOVETRELLIS_SCRIPT");
     let full = File::options().write(true).open("/dev/full").unwrap();
@@ -148,6 +150,7 @@ fn a_run_of_too_many_steps_is_told_by_their_number() {
 /// What the command says in a folder, and its exit status, where a variable of the environment is another and nothing runs its programs.
 fn said_with(folder: &Folder, words: &[&str], variable: (&str, &str)) -> (String, i32) {
     let mut command = Command::new(env!("CARGO_BIN_EXE_dovetrellis"));
+    command.env(NEXT, "1");
     command.args(words).current_dir(folder.path());
     command.env_remove("DOVETRELLIS_SCRIPT");
     if variable.0 != "TMPDIR" {
@@ -233,6 +236,7 @@ fn words_in_each_others_place_are_told() {
 #[test]
 fn a_word_that_is_no_text_is_told() {
     let mut command = Command::new(env!("CARGO_BIN_EXE_dovetrellis"));
+    command.env(NEXT, "1");
     command.arg("judge").arg(OsStr::from_bytes(b"\xff.txt"));
     let output = command.output().unwrap();
     let said = String::from_utf8(output.stderr).unwrap();

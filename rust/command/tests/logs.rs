@@ -6,6 +6,7 @@ use std::path::Path;
 use std::process::{Command, Stdio};
 
 use command::lister::Folder;
+use command::next::VARIABLE as NEXT;
 use command::source::{read, RunSource, Source};
 use command::stop::{Stop, Stopped};
 use wire::Refusal;
@@ -228,7 +229,7 @@ fn the_page_shows_what_is_told_of_logs() {
     let folder = folder(&[
         ("night.txt", blocks[1].as_bytes()),
         ("other.txt", &other),
-        ("log.txt", blocks[11].as_bytes()),
+        ("log.txt", blocks[13].as_bytes()),
     ]);
     let asked = |table: &Source| table.asked_runs(&[path(&folder, "log.txt")]);
     let night = source(&folder, "night.txt");
@@ -242,14 +243,15 @@ fn the_page_shows_what_is_told_of_logs() {
     let told = night.run_told(again, refusal);
     let told = format!("{}\n{}\n", told.line(), told.words());
     let top = format!("{}/", folder.path().display());
-    assert_eq!(told.replace(&top, ""), blocks[15]);
+    assert_eq!(told.replace(&top, ""), blocks[17]);
     let (said, status) = stopped(&folder, asked(&source(&folder, "other.txt")));
-    assert_eq!((said + "\n", status), (blocks[17].to_string(), 1));
+    assert_eq!((said + "\n", status), (blocks[19].to_string(), 1));
 }
 
 /// What came of a command in a folder that is given its standard input: its output, what it said, and its exit status.
 fn ran(folder: &Path, words: &[&str], input: &[u8]) -> (String, String, i32) {
     let mut command = Command::new(env!("CARGO_BIN_EXE_dovetrellis"));
+    command.env(NEXT, "1");
     command.args(words).current_dir(folder);
     let mut child = command
         .env_remove("DOVETRELLIS_SCRIPT")

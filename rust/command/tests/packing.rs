@@ -6,6 +6,7 @@ use std::io::Write;
 use std::process::{Command, Stdio};
 
 use command::lister::Folder;
+use command::next::VARIABLE as NEXT;
 
 /// A table with a run that has a name and one that has none.
 const NET: &str =
@@ -31,6 +32,7 @@ fn records() -> Vec<u8> {
 /// What came of the command in a folder, given a text by the standard input.
 fn given(folder: &Folder, words: &[&str], text: &str) -> Came {
     let mut command = Command::new(env!("CARGO_BIN_EXE_dovetrellis"));
+    command.env(NEXT, "1");
     command.args(words).current_dir(folder.path());
     command.stdin(Stdio::piped()).stdout(Stdio::piped());
     command

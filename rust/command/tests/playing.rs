@@ -7,6 +7,7 @@ use std::os::unix::net::UnixStream;
 use std::process::Command;
 
 use command::lister::Folder;
+use command::next::VARIABLE as NEXT;
 use second::game::{exchanged, fire, markings_along, play, Game};
 use second::generator::{any_marking, any_walk, cases_given, small_net, walk, Random};
 use second::lent::{list_of, read_marking};
@@ -467,6 +468,7 @@ fn an_answer_that_nobody_reads_is_an_error() {
         let (answer, reader) = UnixStream::pair().unwrap();
         drop(reader);
         let mut command = command_in(&folder, words);
+        command.env(NEXT, "1");
         let output = command.stdout(OwnedFd::from(answer)).output().unwrap();
         let said = String::from_utf8(output.stderr).unwrap();
         let last = said.lines().last().unwrap_or_default();

@@ -1,10 +1,11 @@
-//! The command as people run it. The environment names the driver (DOVETRELLIS_DRIVER) and the listing program (DOVETRELLIS_LIST), both
+//! The command as people run it, answering as it is meant for the next version. The environment names the driver (DOVETRELLIS_DRIVER) and the listing program (DOVETRELLIS_LIST), both
 //! run by the words of RATTLE_RUN.
 
 use std::path::Path;
 use std::process::Command;
 
 use command::lister::Folder;
+use command::next::VARIABLE as NEXT;
 
 /// The top of the repository.
 pub const TOP: &str = concat!(env!("CARGO_MANIFEST_DIR"), "/../..");
@@ -26,6 +27,7 @@ pub fn ran_in(folder: &Path, words: &[&str]) -> Ran {
         );
     }
     let mut command = Command::new(env!("CARGO_BIN_EXE_dovetrellis"));
+    command.env(NEXT, "1");
     command.args(words).current_dir(folder);
     command.env("DOVETRELLIS_TOP", TOP);
     let output = command.env_remove("DOVETRELLIS_SCRIPT").output().unwrap();
