@@ -547,20 +547,26 @@ pub fn limit_lines() -> Vec<String> {
     lines.into_iter().map(|line| line.text).collect()
 }
 
+/// A line that is wrong, by one unfolded event: no check of it may pass.
+pub fn wrong_lines() -> Vec<String> {
+    let net = own_net();
+    let counts = counts(&net);
+    let wrong = format!("{} {}", counts.conditions, counts.events + 1);
+    vec![line("counts", 0, &net, wrong).text]
+}
+
 /// What the written module takes from elsewhere.
 const USES: &str = "\
-use mathlib.Core.Bool.{Bool, true, false, _&&_}
-use mathlib.Core.Option.{Option, none, some}
-use mathlib.Core.List.{List, [], _∷_}
+use Rattle.std.specs.Prelude.{Bool, true, false, ◌&&◌, eqb, replicate}
+use Rattle.std.proofs.Math.Option.{Option, none, some}
+use mathlib.Core.List.{List, [], ◌∷◌}
 use Prim.Native.Nat.{ℕ}
-use lib.Dec.{eqb}
-use lib.ListN.{replicate}
-use Rattle·lists.specs.Lists.{mem}
-use Rattle·model.specs.Net.{Net, Stop, unknown, lacks, meets, stopNumber, stopCondition, stopping}
-use Rattle·model.specs.Runs.{atStart, byEvent, opening, Played, ends, refused, replay}
-use Rattle·model.specs.Unfolding.{basic}
-use Rattle·model.specs.Across.{numberOf, placeOf, byOf, Answer, run, refusal, lift, project, exchange}
-use Rattle·model.specs.Examples.{Line, passes, net, underOld, _↝_, counts, lists, behind, numbered, unfolded, notUnfolded, fires, plays, lifts, projects, exchanges}
+use Rattle.lists.specs.Lists.{mem}
+use Rattle.model.specs.Net.{Net, Stop, unknown, lacks, meets, stopNumber, stopCondition, stopping}
+use Rattle.model.specs.Runs.{atStart, byEvent, opening, Played, ends, refused, replay}
+use Rattle.model.specs.Unfolding.{basic}
+use Rattle.model.specs.Across.{numberOf, placeOf, byOf, Answer, run, refusal, lift, project, exchange}
+use Rattle.model.specs.Examples.{Line, passes, net, underOld, ◌↝◌, counts, lists, behind, numbered, unfolded, notUnfolded, fires, plays, lifts, projects, exchanges}
 ";
 
 /// The kinds of lines of the written module, and how each is computed.
@@ -643,7 +649,7 @@ pub fn proofs_module(lines: &[String]) -> String {
     let mut text = format!(
         "-- Every line of the second implementation agrees.\n\
          use lib.Dec.{{T}}\n\
-         use Rattle·compared·specs.specs.Compared.{{allAgree, {}}}\n",
+         use Rattle.compared.specs.Compared.{{allAgree, {}}}\n",
         names.join(", ")
     );
     for name in names {
@@ -653,4 +659,46 @@ pub fn proofs_module(lines: &[String]) -> String {
         ));
     }
     text
+}
+
+/// A word as the model spells it: its parts in small letters, joined by `_`. The lines and the modules join them by capitals, and a lemma's
+/// name by a dash.
+fn spelled(word: &str) -> String {
+    let mut spelled = String::new();
+    let mut before = None;
+    for letter in word.chars() {
+        let begins = letter.is_ascii_uppercase()
+            && before.is_some_and(|c: char| c.is_ascii_lowercase() || c.is_ascii_digit());
+        if begins {
+            spelled.push('_');
+        }
+        spelled.push(if letter == '-' {
+            '_'
+        } else {
+            letter.to_ascii_lowercase()
+        });
+        before = Some(letter);
+    }
+    spelled
+}
+
+/// A module as it is written for the model: its names as the model spells them. A name begins with a small letter; what begins with a
+/// capital is a type or a module.
+pub fn as_written(module: &str) -> String {
+    let in_word = |c: char| c.is_ascii_alphanumeric() || matches!(c, '_' | '-');
+    let mut written = String::new();
+    let mut rest = module;
+    while let Some(first) = rest.chars().next() {
+        let end = match in_word(first) {
+            true => rest.find(|c| !in_word(c)).unwrap_or(rest.len()),
+            false => first.len_utf8(),
+        };
+        let (word, after) = rest.split_at(end);
+        match first.is_ascii_lowercase() {
+            true => written.push_str(&spelled(word)),
+            false => written.push_str(word),
+        }
+        rest = after;
+    }
+    written
 }

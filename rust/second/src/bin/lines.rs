@@ -1,10 +1,11 @@
-//! Writes a crate of lines for the proved model: `lines COUNT SEED [FOLDER]`, or `lines limits 0 [FOLDER]`.
+//! Writes a crate of lines for the proved model: `lines COUNT SEED [FOLDER]`, or `lines limits 0 [FOLDER]`, or one line that is wrong,
+//! `lines wrong 0 [FOLDER]`.
 
 use std::fs;
 use std::path::{Path, PathBuf};
 use std::process::ExitCode;
 
-use second::lines::{limit_lines, lines, proofs_module, specs_module};
+use second::lines::{as_written, limit_lines, lines, proofs_module, specs_module, wrong_lines};
 
 /// What the words of the command ask for.
 struct Asked {
@@ -20,6 +21,7 @@ fn asked() -> Option<Asked> {
     let seed = words.get(1)?.parse().ok()?;
     let lines = match words.first()?.as_str() {
         "limits" => limit_lines(),
+        "wrong" => wrong_lines(),
         count => lines(count.parse().ok()?, seed),
     };
     Some(Asked {
@@ -40,10 +42,10 @@ fn write(folder: &Path, name: &str, text: &str) -> std::io::Result<()> {
 
 /// Writes the crate.
 fn write_crate(asked: &Asked) -> std::io::Result<()> {
-    let specs = specs_module(&asked.lines, asked.seed);
-    let proofs = proofs_module(&asked.lines);
+    let specs = as_written(&specs_module(&asked.lines, asked.seed));
+    let proofs = as_written(&proofs_module(&asked.lines));
     let list = "-- The modules of this folder.\npub mod Compared\n";
-    let code = "// This crate has no code: it compares lines.\n";
+    let code = "// This crate has no code: it compares lines.\n#![tactic(auto)]\n";
     write(&asked.folder, "src/lib.rt", code)?;
     write(&asked.folder, "specs/Lib.antt", list)?;
     write(&asked.folder, "specs/Compared.antt", &specs)?;
@@ -53,7 +55,7 @@ fn write_crate(asked: &Asked) -> std::io::Result<()> {
 
 fn main() -> ExitCode {
     let Some(asked) = asked() else {
-        eprintln!("usage: lines COUNT SEED [FOLDER] or lines limits 0 [FOLDER]");
+        eprintln!("usage: lines COUNT SEED [FOLDER] or lines limits|wrong 0 [FOLDER]");
         return ExitCode::from(2);
     };
     let folder = asked.folder.display();

@@ -16,3 +16,4 @@ mod records;
 mod refusals;
 mod rules;
 mod stops;
+mod written;
