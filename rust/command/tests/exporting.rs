@@ -88,6 +88,24 @@ fn net_c_is_exported_byte_for_byte() {
     assert_eq!(compared(&table_bytes(&net_c())), NET_C);
 }
 
+#[test]
+fn a_net_without_places_and_transitions_opens_and_closes() {
+    let unused = Net {
+        persistent: vec![true],
+        ..Net::default()
+    };
+    let start_alone = Net {
+        start: vec![0],
+        ..unused.clone()
+    };
+    for net in [unused, start_alone] {
+        let written = compared(&table_bytes(&net));
+        assert!(written.ends_with(r#"<page id="g"></page></net></pnml>"#));
+        let unfolding = unfold(&net).unwrap();
+        assert_eq!(Doubled::of(&unfolding).elements().count(), 2);
+    }
+}
+
 /// The export of one ordinary condition that holds, and which its one event takes and puts, made by hand; by the old rule the arcs of the
 /// second place come too.
 fn taken_and_put(rule: Rule) -> String {

@@ -7,13 +7,12 @@ use std::path::Path;
 use std::process::{Command, Output, Stdio};
 
 use command::export::lacking;
-use command::lister::{listing_in, Folder};
+use command::lister::Folder;
 use command::next::VARIABLE as NEXT;
 use command::source::{read, Source};
-use command::tools::export_program;
 use second::export::Doubled;
 use second::plain::reached_unfolded;
-use second::table::{read_table, table_bytes, Net};
+use second::table::read_table;
 use second::unfolding::unfold;
 
 /// The top of the repository.
@@ -25,46 +24,6 @@ fn expected(table: &[u8]) -> String {
     match unfolding {
         Ok(unfolding) => Doubled::of(&unfolding).elements().collect(),
         Err(refusal) => format!("refused {} at {}\n", refusal.number, refusal.place),
-    }
-}
-
-/// What the program writes in a folder.
-fn written_in(folder: &Folder) -> String {
-    let mut program = export_program().expect("DOVETRELLIS_EXPORT names it, as .ci/run does");
-    listing_in(folder.path(), &mut program).unwrap()
-}
-
-/// Runs the program on a table and compares what it writes; gives that.
-fn compared(table: &[u8]) -> String {
-    let folder = Folder::new().unwrap();
-    folder.write("net.bin", table).unwrap();
-    let (written, expected) = (written_in(&folder), expected(table));
-    let differ = |(a, b): (u8, u8)| a != b;
-    let at = written.bytes().zip(expected.bytes()).position(differ);
-    assert!(
-        written == expected,
-        "they differ from byte {at:?} on, of {} and {}",
-        written.len(),
-        expected.len()
-    );
-    written
-}
-
-#[test]
-fn a_net_without_places_and_transitions_opens_and_closes() {
-    let unused = Net {
-        persistent: vec![true],
-        ..Net::default()
-    };
-    let start_alone = Net {
-        start: vec![0],
-        ..unused.clone()
-    };
-    for net in [unused, start_alone] {
-        let written = compared(&table_bytes(&net));
-        assert!(written.ends_with(r#"<page id="g"></page></net></pnml>"#));
-        let unfolding = unfold(&net).unwrap();
-        assert_eq!(Doubled::of(&unfolding).elements().count(), 2);
     }
 }
 

@@ -42,7 +42,7 @@ fn named_command() -> io::Result<Command> {
 
 impl Driver {
     /// Starts the driver that the environment names: DOVETRELLIS_DRIVER is its path, and RATTLE_RUN, where it is set, has the words
-    /// to run it with, as the emulator and the loader.
+    /// to run it with, as the kit's loader.
     pub fn open() -> io::Result<Driver> {
         Driver::open_by(named_command()?)
     }

@@ -1,7 +1,7 @@
 //! Calls of the proved library over pipes: a program asks the C driver, which calls the archive.
 //!
 //! [`Driver`] has one method for each call of `include/dovetrellis.h`, with the arguments of that call. The archive is for x86-64;
-//! on another machine the driver runs under the kit's emulator, and this crate is the way to ask it from there.
+//! the driver is a program of its own, so that whoever asks it need not be linked with it.
 
 mod calls;
 mod driver;

@@ -50,7 +50,7 @@ fn repository(kit: &str, without: &[&str]) -> Folder {
     let at = folder.path();
     for made in [
         "bin",
-        "crates",
+        "crates/list",
         "driver",
         "include",
         "rust/command",

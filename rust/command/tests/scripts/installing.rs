@@ -12,15 +12,9 @@ use crate::{one_test, repository, said, script, write_script, TOP};
 /// A kit that tells where it is.
 const KIT: &str = "#!/usr/bin/env bash
 case $1 in
-    doc) echo \"$(dirname \"$0\")/../kit/docs/START-HERE.md\" ;;
+    doc) echo \"$(dirname \"$0\")/../kit/START-HERE.md\" ;;
     --version) echo 'kit-1 logic 23' ;;
 esac
-";
-
-/// An emulator, which says so.
-const EMULATOR: &str = "#!/usr/bin/env bash
-echo emulated
-exec \"$@\"
 ";
 
 /// A loader that needs a library in the folder that is named, and that lists it with the loader itself and with what the system has.
@@ -45,19 +39,10 @@ const ANSWER: &str = "\
 asked: list --names
 built: commit unknown, kit-1 logic 23, script: none
 a net
-emulated
 driver ran: word
-emulated
 list ran: word
-emulated
 export ran: word
 ";
-
-/// This machine, as uname tells it.
-fn machine() -> String {
-    let output = Command::new("uname").arg("-m").output().unwrap();
-    String::from_utf8(output.stdout).unwrap().trim().to_string()
-}
 
 /// Copies files of the repository, by their names from its top.
 fn copied(to: &Path, names: &[&str]) {
@@ -80,18 +65,15 @@ fn written(to: &Path, files: &[(&str, &str)]) {
     }
 }
 
-/// The kit's files for this machine.
+/// The kit's files.
 fn write_kit(at: &Path) {
-    let tools = at.join("kit/on").join(machine()).join("toolchain");
     let files = [
-        ("bin/qemu-x86_64", EMULATOR),
-        ("lib/ld-linux-x86-64.so.2", LOADER),
-        ("lib/libc.so.6", "a library"),
-        ("lib/libm.so.6", "a library that nothing needs"),
-        ("qemu-copyright", "a notice"),
+        ("toolchain/lib/ld-linux-x86-64.so.2", LOADER),
+        ("toolchain/lib/libc.so.6", "a library"),
+        ("toolchain/lib/libm.so.6", "a library that nothing needs"),
+        ("START-HERE.md", ""),
     ];
-    written(&tools, &files);
-    written(at, &[("kit/docs/START-HERE.md", "")]);
+    written(&at.join("kit"), &files);
 }
 
 /// The files of the repository that are tried here.
@@ -182,7 +164,7 @@ fn files_below(folder: &Path) -> Vec<String> {
 }
 
 /// What an installation has.
-const INSTALLED: [&str; 23] = [
+const INSTALLED: [&str; 21] = [
     "bin/dovetrellis",
     "include/dovetrellis.h",
     "lib/dovetrellis/dovetrellis",
@@ -195,12 +177,10 @@ const INSTALLED: [&str; 23] = [
     "lib/dovetrellis/x86-64/ld-linux-x86-64.so.2",
     "lib/dovetrellis/x86-64/libc.so.6",
     "lib/dovetrellis/x86-64/list",
-    "lib/dovetrellis/x86-64/qemu-x86_64",
     "lib/libdovetrellis.a",
     "lib/pkgconfig/dovetrellis.pc",
     "share/bash-completion/completions/dovetrellis",
     "share/doc/dovetrellis/TEXT.md",
-    "share/doc/dovetrellis/qemu-copyright",
     "share/dovetrellis/checker/spin",
     "share/dovetrellis/checker/spin.py",
     "share/dovetrellis/dovetrellis",
