@@ -95,7 +95,7 @@ pub fn held(marking: &[u8]) -> Vec<u16> {
 pub fn events_of(net: &str, count: u64) -> String {
     match count {
         0 => format!("{net} has none"),
-        1 => format!("{net} has event 0 alone"),
+        1 if next::is_asked() => format!("{net} has event 0 alone"),
         _ => format!("{net} has events 0 to {}", count - 1),
     }
 }
