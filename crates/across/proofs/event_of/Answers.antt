@@ -1,6 +1,6 @@
 -- `across::event_of` meets its contract.
 use native.Mathlib.Omega.{arith}
-use Prim.Native.Nat.{◌+◌, ◌-◌}
+use Prim.Native.Nat.{◌+◌}
 use mathlib.Core.Path.{◌≡◌}
 use Rattle.across.proofs.event_of.Goals as goal
 

@@ -1,6 +1,6 @@
 -- `across::sizes_before` meets its contract.
 use native.Mathlib.Omega.{arith}
-use Prim.Native.Nat.{ℕ, ◌+◌, ◌-◌, ◌<◌}
+use Prim.Native.Nat.{ℕ, ◌+◌, ◌<◌}
 use mathlib.Core.Path.{◌≡◌, ◌∙◌, ap, refl}
 use lib.ListN.{get_or, length-set}
 use Rattle.lists.specs.Lists.{sum}

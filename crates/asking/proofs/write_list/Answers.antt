@@ -1,5 +1,5 @@
 -- `asking::write_list` meets its contract: storing what is left gives what storing the whole list gives.
-use Prim.Native.Nat.{ℕ, ◌-◌}
+use Prim.Native.Nat.{ℕ}
 use native.Mathlib.Omega.{arith}
 use mathlib.Core.Path.{refl, sym, ◌∙◌}
 use mathlib.Core.List.{List}

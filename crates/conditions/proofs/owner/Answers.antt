@@ -1,6 +1,5 @@
 -- `conditions::owner` meets its contract.
 use native.Mathlib.Omega.{arith}
-use Prim.Native.Nat.{◌-◌}
 use Rattle.model.specs.Numbering.{width}
 use Rattle.table.specs.Decoded.{net_of}
 use Rattle.conditions.proofs.Origins.{next_base, next_sum}

@@ -2,7 +2,6 @@
 use mathlib.Core.Path.{◌≡◌}
 use Rattle.copies.proofs.Ranges.{ranged_none, ranged_more}
 use native.Mathlib.Omega.{arith}
-use Prim.Native.Nat.{◌-◌}
 use Rattle.model.specs.Lent.{bit}
 use Rattle.copies.proofs.fill.Goals as goal
 

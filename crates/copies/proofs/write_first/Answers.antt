@@ -1,7 +1,6 @@
 -- `copies::write_first` meets its contract.
 use mathlib.Core.Bool.{false}
 use native.Mathlib.Omega.{arith}
-use Prim.Native.Nat.{◌-◌}
 use lib.ListN.{length}
 use Rattle.held.specs.Held.{held_in}
 use Rattle.table.specs.Decoded.{net_of}

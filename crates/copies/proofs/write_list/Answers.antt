@@ -1,6 +1,5 @@
 -- `copies::write_list` meets its contract.
 use native.Mathlib.Omega.{arith}
-use Prim.Native.Nat.{◌-◌}
 use Rattle.model.specs.Lent.{bit}
 use Rattle.copies.proofs.Ranges.{fits_same, listing_first, listing_here, listing_next, listing_end}
 use Rattle.copies.proofs.write_list.Goals as goal

@@ -1,5 +1,4 @@
 -- `decided::first_lacking` meets its contract.
-use Prim.Native.Nat.{◌-◌}
 use native.Mathlib.Omega.{arith}
 use mathlib.Core.Path.{◌∙◌, sym, ap}
 use Rattle.step.specs.Steps.{failing_of}

@@ -1,7 +1,6 @@
 -- `event_numbers::weigh` meets its contract.
 use native.Mathlib.Omega.{arith}
 use mathlib.Core.Path.{◌∙◌, sym}
-use Prim.Native.Nat.{◌-◌}
 use Rattle.event_numbers.proofs.Weights.{carrying_first, none_left, some_left, carrying_past, few_markers, not_marking, marked_fits, carrying_marked}
 use Rattle.event_numbers.proofs.weigh.Goals as goal
 use Rattle.event_numbers.proofs.weigh.Goals.{then-is_persistent+else-at-c+else-radix-place, else-is_persistent}

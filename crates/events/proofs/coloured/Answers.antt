@@ -1,5 +1,4 @@
 -- `events::coloured` meets its contract.
-use Prim.Native.Nat.{◌-◌}
 use native.Mathlib.Omega.{arith}
 use mathlib.Core.Path.{◌≡◌, ap, sym, ◌∙◌}
 use Rattle.events.specs.declared.Colour.{Colour}

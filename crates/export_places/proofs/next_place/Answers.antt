@@ -2,7 +2,6 @@
 use mathlib.Core.Path.{refl, subst}
 use mathlib.Core.Logic.{⊎_elim}
 use Rattle.export_places.proofs.Places.{after_opens, after_place, after_transition, numbered_few, follows_found, follows_spot, follows_closes, follows_over}
-use Prim.Native.Nat.{◌-◌}
 use native.Mathlib.Omega.{arith}
 use Rattle.export_places.specs.declared.Place as declared
 use Rattle.export_places.specs.Places.{Stands}
@@ -48,8 +47,8 @@ pub returns : goal.returns
 returns c =
     follows_found c.match-place.i c.args.place c.place_at.result
     (elim c.match-place.branch [
-    | in-Opens w ↦ after_opens c.args.table.now c.args.place c.match-place.i w.in-Opens.is w.i-is
-    | in-Place w ↦ (after_place c.args.table.now c.args.markers.now c.args.users.now c.args.bases.now c.args.marks.now c.args.uses.now c.args.starts.now c.args.sizes.now c.requires.numbered.0 c.args.place c.match-place.i w.in-Place.x w.in-Place.is w.i-is c.requires.stands).1
-    | in-Transition w ↦ (after_transition c.args.table.now c.args.markers.now c.args.users.now c.args.bases.now c.args.marks.now c.args.uses.now c.args.starts.now c.args.sizes.now c.requires.numbered.0 c.args.place c.match-place.i w.in-Transition.t w.in-Transition.is w.i-is c.requires.stands).1
+      | in-Opens w ↦ after_opens c.args.table.now c.args.place c.match-place.i w.in-Opens.is w.i-is
+      | in-Place w ↦ (after_place c.args.table.now c.args.markers.now c.args.users.now c.args.bases.now c.args.marks.now c.args.uses.now c.args.starts.now c.args.sizes.now c.requires.numbered.0 c.args.place c.match-place.i w.in-Place.x w.in-Place.is w.i-is c.requires.stands).1
+      | in-Transition w ↦ (after_transition c.args.table.now c.args.markers.now c.args.users.now c.args.bases.now c.args.marks.now c.args.uses.now c.args.starts.now c.args.sizes.now c.requires.numbered.0 c.args.place c.match-place.i w.in-Transition.t w.in-Transition.is w.i-is c.requires.stands).1
     ])
     c.place_at.ensures

@@ -1,5 +1,4 @@
 -- `export_places::place_at` meets its contract.
-use Prim.Native.Nat.{◌-◌}
 use native.Mathlib.Omega.{arith}
 use Rattle.export_places.proofs.Places.{numbered_few, finds_opens, finds_place, finds_transition, finds_later}
 use Rattle.export_places.proofs.place_at.Goals as goal

@@ -1,6 +1,6 @@
 -- `firsts::marked` meets its contract.
 use native.Mathlib.Omega.{arith}
-use Prim.Native.Nat.{◌+◌, ◌-◌}
+use Prim.Native.Nat.{◌+◌}
 use mathlib.Core.Path.{refl, ◌∙◌, sym, ap}
 use mathlib.Core.List.{List, []}
 use lib.ListN.{drop}

@@ -1,5 +1,4 @@
 -- `game::first_above` meets its contract.
-use Prim.Native.Nat.{◌-◌}
 use native.Mathlib.Omega.{arith}
 use Rattle.game.proofs.Above.{above_here, above_on, above_end, above_none}
 use Rattle.game.proofs.first_above.Goals as goal

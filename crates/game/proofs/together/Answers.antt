@@ -1,5 +1,4 @@
 -- `game::together` meets its contract.
-use Prim.Native.Nat.{◌-◌}
 use native.Mathlib.Omega.{arith}
 use Rattle.game.proofs.Above.{together_on}
 use Rattle.game.proofs.together.Goals as goal

@@ -1,11 +1,8 @@
 -- `later::own_markers` meets its contract.
 use native.Mathlib.Omega.{arith}
-use Prim.Native.Nat.{◌-◌}
-use mathlib.Core.Path.{◌≡◌}
-use lib.ListN.{length, length-map}
 use Rattle.table.specs.Decoded.{net_of}
 use Rattle.tally.proofs.Events.{walk_next, walk_within}
-use Rattle.later.proofs.Upto.{own_none, post_inside, own_event, own_done}
+use Rattle.later.proofs.Upto.{post_inside, own_event, own_done}
 use Rattle.later.proofs.own_markers.Goals as goal
 
 pub overflow_cast-e : goal.overflow_cast-e

@@ -6,7 +6,7 @@ use Rattle.layout.specs.Counts.{idle_or, capped_count, events_of}
 use Rattle.layout.proofs.Counts.{sum_next, idle_walk, colours_walk, idle_here, idle_later, idle_end, idle_all}
 use native.Mathlib.Omega.{arith}
 use mathlib.Core.Path.{◌≡◌, ◌∙◌, sym, ap, refl}
-use Prim.Native.Nat.{ℕ, ◌+◌, ◌-◌}
+use Prim.Native.Nat.{ℕ, ◌+◌}
 use Rattle.lists.specs.Lists.{sum}
 use Rattle.model.specs.Numbering.{size}
 use Rattle.table.specs.Decoded.{net_of}

@@ -1,7 +1,6 @@
 -- `layout::idle` meets its contract.
 use native.Mathlib.Omega.{arith}
 use mathlib.Core.Path.{◌∙◌, sym}
-use Prim.Native.Nat.{◌-◌}
 use Rattle.words.specs.Words.{words}
 use Rattle.layout.proofs.Steps.{some_precondition, no_precondition, unused_next, used_here, ordinary_here, unused_end}
 use Rattle.layout.proofs.idle.Goals as goal

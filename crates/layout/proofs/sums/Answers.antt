@@ -2,7 +2,7 @@
 use Rattle.layout.proofs.Counts.{sum_next, width_low}
 use native.Mathlib.Omega.{arith}
 use mathlib.Core.Path.{◌≡◌, ◌∙◌, ap}
-use Prim.Native.Nat.{ℕ, ◌+◌, ◌-◌, ◌<◌}
+use Prim.Native.Nat.{ℕ, ◌+◌, ◌<◌}
 use lib.ListN.{get_or, length-set}
 use Rattle.lists.specs.Lists.{sum}
 use Rattle.model.specs.Numbering.{size}

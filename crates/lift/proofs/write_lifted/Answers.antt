@@ -1,6 +1,5 @@
 -- `lift::write_lifted` meets its contract.
 use native.Mathlib.Omega.{arith}
-use Prim.Native.Nat.{◌-◌}
 use Rattle.lift.proofs.Written.{write_on, write_end}
 use Rattle.lift.proofs.write_lifted.Goals as goal
 

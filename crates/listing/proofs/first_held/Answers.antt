@@ -1,5 +1,4 @@
 -- What holds from where the walk is on is what holds at all.
-use Prim.Native.Nat.{◌-◌}
 use native.Mathlib.Nat.{sub-zero}
 use native.Mathlib.Omega.{arith}
 use mathlib.Core.Path.{◌∙◌}

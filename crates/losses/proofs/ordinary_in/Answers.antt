@@ -1,6 +1,5 @@
 -- `losses::ordinary_in` meets its contract: what is left of the list tells what the whole list tells.
 use native.Mathlib.Omega.{arith}
-use Prim.Native.Nat.{◌-◌}
 use mathlib.Core.Path.{◌∙◌, sym}
 use Rattle.words.specs.Words.{words}
 use Rattle.losses.specs.Tests.{kept_at}

@@ -1,6 +1,5 @@
 -- `losses::spends` meets its contract: what is left of the list tells what the whole list tells.
 use native.Mathlib.Omega.{arith}
-use Prim.Native.Nat.{◌-◌}
 use mathlib.Core.Path.{◌∙◌, sym}
 use Rattle.losses.specs.Tests.{spent_at}
 use Rattle.losses.proofs.Steps.{any_on, any_here, any_end}

@@ -1,6 +1,5 @@
 -- `losses::write_lossy` meets its contract.
 use native.Mathlib.Omega.{arith}
-use Prim.Native.Nat.{◌-◌}
 use mathlib.Core.Path.{◌≡◌, ◌∙◌, sym, ap}
 use Rattle.model.specs.Lent.{bit}
 use Rattle.table.specs.Decoded.{net_of}

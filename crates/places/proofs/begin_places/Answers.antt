@@ -1,6 +1,5 @@
 -- `places::begin_places` meets its contract.
 use native.Mathlib.Omega.{arith}
-use Prim.Native.Nat.{◌-◌}
 use lib.ListN.{length-set}
 use Rattle.tally.proofs.Lists.{set_more}
 use Rattle.firsts.specs.Firsts.{first_at}

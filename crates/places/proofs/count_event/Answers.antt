@@ -1,6 +1,6 @@
 -- `places::count_event` meets its contract.
 use native.Mathlib.Omega.{arith}
-use Prim.Native.Nat.{ℕ, ◌+◌, ◌-◌}
+use Prim.Native.Nat.{ℕ, ◌+◌}
 use mathlib.Core.Path.{◌∙◌, sym, ap}
 use lib.ListN.{length, drop, get_or, set, length-set}
 use Rattle.words.specs.Words.{words}

@@ -1,6 +1,6 @@
 -- `places::joined_all` meets its contract.
 use native.Mathlib.Omega.{arith}
-use Prim.Native.Nat.{ℕ, ◌+◌, ◌-◌}
+use Prim.Native.Nat.{ℕ, ◌+◌}
 use mathlib.Core.List.{[]}
 use mathlib.Core.Path.{◌∙◌, sym, ap}
 use lib.ListN.{drop}

@@ -1,6 +1,5 @@
 -- `places::marker_places` meets its contract.
 use native.Mathlib.Omega.{arith}
-use Prim.Native.Nat.{◌-◌}
 use mathlib.Core.Path.{◌∙◌, sym}
 use Rattle.tally.proofs.Events.{walk_next, walk_within}
 use Rattle.places.proofs.Counting.{counting_none, counting_room, counting_next, counting_end}

@@ -1,5 +1,4 @@
 -- `played::fill` meets its contract.
-use Prim.Native.Nat.{◌-◌}
 use native.Mathlib.Omega.{arith}
 use Rattle.played.proofs.Index.{filling_start, filling_inside, filling_on, filling_end}
 use Rattle.played.proofs.fill.Goals as goal

@@ -1,5 +1,4 @@
 -- `played::play` meets its contract.
-use Prim.Native.Nat.{◌-◌}
 use mathlib.Core.Path.{◌∙◌}
 use Rattle.table.proofs.Decoded.{conditions_are_all}
 use Rattle.played.proofs.Playing.{going_start, step_on, step_ends, too_long_lem, comes_to_end}

@@ -1,5 +1,4 @@
 -- `project::play` meets its contract.
-use Prim.Native.Nat.{◌-◌}
 use native.Mathlib.Omega.{arith}
 use Rattle.project.proofs.Walks.{walk_stops, walk_ends, walk_on}
 use Rattle.project.proofs.play.Goals as goal

@@ -1,5 +1,4 @@
 -- `project::read_back` meets its contract.
-use Prim.Native.Nat.{◌-◌}
 use native.Mathlib.Omega.{arith}
 use Rattle.project.proofs.Back.{read_start, read_around, read_on, read_end}
 use Rattle.project.proofs.read_back.Goals as goal

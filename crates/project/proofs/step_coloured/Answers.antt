@@ -1,9 +1,4 @@
 -- `project::step_coloured` meets its contract.
-use mathlib.Core.Path.{◌∙◌}
-use Rattle.table.specs.Decoded.{net_of}
-use Rattle.decided.specs.Kept.{marker_at}
-use Rattle.project.specs.Walked.{stops_at}
-use Rattle.project.proofs.Steps.{located_as}
 use Rattle.project.proofs.step_coloured.Goals as goal
 
 pub bounds-offsets-e : goal.bounds-offsets-e

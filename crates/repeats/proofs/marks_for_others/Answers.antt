@@ -1,6 +1,5 @@
 -- `repeats::marks_for_others` meets its contract.
 use native.Mathlib.Omega.{arith}
-use Prim.Native.Nat.{◌-◌}
 use mathlib.Core.Path.{◌∙◌, sym}
 use Rattle.words.specs.Words.{words}
 use Rattle.repeats.proofs.Steps.{others_here, others_later, others_end}

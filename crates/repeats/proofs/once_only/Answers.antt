@@ -1,6 +1,6 @@
 -- `repeats::once_only` meets its contract.
 use native.Mathlib.Omega.{arith}
-use Prim.Native.Nat.{ℕ, ◌-◌}
+use Prim.Native.Nat.{ℕ}
 use mathlib.Core.Path.{◌≡◌, ◌∙◌, sym, ap}
 use lib.Dec.{eqb}
 use Rattle.table.specs.Decoded.{net_of}

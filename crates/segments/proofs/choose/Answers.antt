@@ -1,7 +1,6 @@
 -- `segments::choose` meets its contract.
 use native.Mathlib.Omega.{arith}
 use mathlib.Core.Path.{refl, ◌∙◌, sym}
-use Prim.Native.Nat.{◌-◌}
 use lib.ListN.{length-set}
 use Rattle.segments.proofs.Chosen.{walk_divides, walk_again, walk_low, walk_choosing, walk_chosen, chosen_end}
 use Rattle.segments.proofs.choose.Goals as goal

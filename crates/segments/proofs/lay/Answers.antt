@@ -1,5 +1,5 @@
 -- `segments::lay` meets its contract.
-use Prim.Native.Nat.{ℕ, ◌*◌, ◌-◌}
+use Prim.Native.Nat.{ℕ, ◌*◌}
 use native.Mathlib.Omega.{arith}
 use mathlib.Core.Path.{◌≡◌, ◌∙◌, sym, ap₂, subst}
 use mathlib.Core.List.{List, ◌++◌}

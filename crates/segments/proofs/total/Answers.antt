@@ -1,7 +1,7 @@
 -- `segments::total` meets its contract.
 use native.Mathlib.Omega.{arith}
 use mathlib.Core.Path.{◌≡◌, refl, ◌∙◌, ap}
-use Prim.Native.Nat.{ℕ, ◌+◌, ◌-◌}
+use Prim.Native.Nat.{ℕ, ◌+◌}
 use lib.ListN.{get_or}
 use Rattle.lists.specs.Lists.{sum}
 use Rattle.layout.proofs.Counts.{sum_next}

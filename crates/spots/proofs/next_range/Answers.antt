@@ -1,5 +1,4 @@
 -- `spots::next_range` meets its contract.
-use Prim.Native.Nat.{◌-◌}
 use mathlib.Core.Path.{◌∙◌}
 use native.Mathlib.Omega.{arith}
 use Rattle.spots.proofs.Ranges.{passed_over}

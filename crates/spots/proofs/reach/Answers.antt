@@ -2,7 +2,6 @@
 use Rattle.unfolding.proofs.Owners.{within_laid}
 use Rattle.spots.proofs.Spots.{due_owned, due_lent, due_by, due_first, owner_at}
 use Rattle.spots.proofs.Search.{reaches_none, due_low, sum_low, reaches_here, reaches_on}
-use Prim.Native.Nat.{◌-◌}
 use native.Mathlib.Omega.{arith}
 use Rattle.spots.proofs.reach.Goals as goal
 

@@ -1,5 +1,4 @@
 -- `spots::spot_in` meets its contract.
-use Prim.Native.Nat.{◌-◌}
 use native.Mathlib.Omega.{arith}
 use Rattle.spots.proofs.Ranges.{range_there, passed_by}
 use Rattle.spots.proofs.spot_in.Goals as goal

@@ -1,5 +1,4 @@
 -- `step::first` meets its contract.
-use Prim.Native.Nat.{◌-◌}
 use native.Mathlib.Omega.{arith}
 use mathlib.Core.Path.{sym, ap, ◌∙◌}
 use Rattle.held.specs.Held.{held_in}

@@ -2,7 +2,6 @@
 use Rattle.tally.proofs.Lists.{set_more}
 use native.Mathlib.Omega.{arith}
 use mathlib.Core.Path.{refl}
-use Prim.Native.Nat.{◌-◌}
 use lib.ListN.{length-set}
 use Rattle.tally.proofs.fill.Goals as goal
 

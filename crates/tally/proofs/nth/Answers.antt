@@ -4,7 +4,7 @@ use Rattle.tally.proofs.Tallies.{having_all, nth_here, nth_later, nth_past, havi
 use native.Mathlib.Omega.{arith}
 use mathlib.Core.Path.{◌∙◌, sym, ap}
 use mathlib.Core.List.{List}
-use Prim.Native.Nat.{ℕ, ◌-◌}
+use Prim.Native.Nat.{ℕ}
 use lib.ListN.{get_or}
 use Rattle.table.specs.Decoded.{net_of}
 use Rattle.tally.proofs.nth.Goals as goal

@@ -4,7 +4,7 @@ use Rattle.tally.proofs.Tallies.{having_all, place_here, place_later, place_past
 use native.Mathlib.Omega.{arith}
 use mathlib.Core.Path.{◌∙◌, ap}
 use mathlib.Core.List.{List}
-use Prim.Native.Nat.{ℕ, ◌-◌}
+use Prim.Native.Nat.{ℕ}
 use Rattle.lists.specs.Lists.{index}
 use lib.Dec.{eqb}
 use Rattle.table.specs.Decoded.{net_of}

@@ -1,7 +1,7 @@
 -- `tally::raise` meets its contract.
 use native.Mathlib.Omega.{arith}
 use mathlib.Core.Path.{◌∙◌, sym}
-use Prim.Native.Nat.{◌+◌, ◌-◌}
+use Prim.Native.Nat.{◌+◌}
 use lib.ListN.{length, length-set}
 use Rattle.tally.proofs.Lists.{set_low, raised_next, inside_here, inside_later, raised_end}
 use Rattle.tally.proofs.raise.Goals as goal

@@ -2,7 +2,7 @@
 use borrow.Author.Rules.{rules}
 use native.Mathlib.Omega.{arith}
 use mathlib.Core.Path.{◌∙◌, sym}
-use Prim.Native.Nat.{◌+◌, ◌-◌}
+use Prim.Native.Nat.{◌+◌}
 use lib.ListN.{length, get_or, length-set}
 use Rattle.tally.proofs.Lists.{set_low, raised_next, inside_here, inside_later, first_byte, raised_end}
 use Rattle.tally.proofs.raise_low.Goals as goal

@@ -2,7 +2,6 @@
 use Rattle.tally.proofs.Events.{walk_next, walk_within}
 use native.Mathlib.Omega.{arith}
 use mathlib.Core.Path.{◌≡◌}
-use Prim.Native.Nat.{◌-◌}
 use lib.ListN.{length}
 use Rattle.table.specs.Decoded.{net_of}
 use Rattle.tally.proofs.Tallies.{tally_none, tally_room, tally_next}

@@ -1,7 +1,6 @@
 -- `unfolded_lists::put_range` meets its contract.
 use native.Mathlib.Omega.{arith}
 use mathlib.Core.Path.{refl, ◌∙◌, sym}
-use Prim.Native.Nat.{◌-◌}
 use lib.ListN.{length-set}
 use Rattle.segments.proofs.Ranged.{put_on, put_end, put_start}
 use Rattle.unfolded_lists.proofs.put_range.Goals as goal

@@ -1,5 +1,5 @@
 -- `unfolding::colours_before` meets its contract.
-use Prim.Native.Nat.{ℕ, ◌+◌, ◌-◌}
+use Prim.Native.Nat.{ℕ, ◌+◌}
 use native.Mathlib.Omega.{arith}
 use mathlib.Core.Path.{◌≡◌, ◌∙◌, ap, refl}
 use Rattle.lists.specs.Lists.{sum}

@@ -6,7 +6,6 @@ use Prim.Native.Nat.{ℕ, ◌+◌}
 use lib.Dec.{eqb}
 use Rattle.lists.specs.Lists.{mem, index}
 use Rattle.model.specs.Unfolding.{same_marker, markers}
-use Rattle.model.specs.Runs.{Marker}
 use Rattle.table.specs.Decoded.{net_of}
 use Rattle.tally.specs.Having.{list_of, having}
 use Rattle.tally.proofs.Tallies.{keep_few}

@@ -1,5 +1,4 @@
 -- `unfolding::owner` meets its contract.
-use Prim.Native.Nat.{◌-◌}
 use native.Mathlib.Omega.{arith}
 use Rattle.model.specs.Numbering.{size}
 use Rattle.table.specs.Decoded.{net_of}

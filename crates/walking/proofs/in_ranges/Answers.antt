@@ -2,7 +2,7 @@
 use native.Mathlib.Omega.{arith}
 use mathlib.Core.Path.{◌∙◌, sym, ap}
 use mathlib.Core.List.{List}
-use Prim.Native.Nat.{ℕ, ◌-◌}
+use Prim.Native.Nat.{ℕ}
 use Rattle.lists.specs.Lists.{mem}
 use Rattle.segments.proofs.Ranged.{ranged_whole}
 use Rattle.walking.proofs.Ranging.{mem_here, mem_next, mem_end}
