@@ -53,16 +53,19 @@ static void listed(const char *name, lists *call, uint64_t number, uint64_t firs
     right(name, answer, found == count && list[0] == first);
 }
 
-/* Makes the calls that list and fire. */
+/* Makes the calls that list and fire. What a call leaves is looked at after it: arguments are worked out in any order. */
 static void events(void) {
     uint8_t marking[4] = {1, 0, 0, 0}, unfolded[5] = {1, 0, 0, 0, 0};
+    struct dovetrellis_answer answer;
     listed("pre", WIDE(lists, pre), 1, 1, 2);
     listed("post", WIDE(lists, post), 2, 1, 1);
     listed("unfolded_pre", WIDE(lists, unfolded_pre), 2, 1, 2);
     listed("unfolded_post", WIDE(lists, unfolded_post), 3, 1, 1);
     right("can_fire", WIDE(fires, can_fire)(TABLE, marking, 4, ABOVE_16(0)), true);
-    right("fire", WIDE(fires, fire)(TABLE, marking, 4, ABOVE_16(0)), marking[1] == 1);
-    right("unfolded_fire", WIDE(fires, unfolded_fire)(TABLE, unfolded, 5, ABOVE_16(0)), unfolded[3] == 1);
+    answer = WIDE(fires, fire)(TABLE, marking, 4, ABOVE_16(0));
+    right("fire", answer, marking[1] == 1);
+    answer = WIDE(fires, unfolded_fire)(TABLE, unfolded, 5, ABOVE_16(0));
+    right("unfolded_fire", answer, unfolded[3] == 1);
 }
 
 /* Makes the calls that go from a number of the unfolding to its origin, and back. */
