@@ -35,7 +35,7 @@ SPOILS = re.compile(
 )
 BELOW = re.compile(r"-(0x[0-9a-f]+)\(%rsp(,)?")
 PROBES = re.compile(
-    r"mov +%rsp,%r11;sub +\$(0x[0-9a-f]+),%r11;sub +\$0x1000,%rsp;movq +\$0x0,\(%rsp\);cmp +%r11,%rsp;jne +(\w+) <.+>$"
+    r"mov +%rsp,%r11;sub +\$(0x[0-9a-f]+),%r11;sub +\$(0x[0-9a-f]+),%rsp;movq +\$0x0,\(%rsp\);cmp +%r11,%rsp;jne +(\w+) <.+>$"
 )
 
 
@@ -81,7 +81,7 @@ class Function:
             self.own = max(self.own, used + (min(int(below, 16), RED_ZONE) if index else int(below, 16)))
         self.own = max(self.own, used)
         probes = PROBES.match(";".join(text for _, text in self.code[at : at + 6]))
-        if probes and int(probes[2], 16) == self.code[at + 2][0] and int(probes[1], 16) % 0x1000 == 0:
+        if probes and int(probes[3], 16) == self.code[at + 2][0] and int(probes[1], 16) % int(probes[2], 16) == 0:
             return [(self.code[at + 6][0], used + int(probes[1], 16))]
         jump = JUMP.match(text)
         if jump:
