@@ -6,9 +6,9 @@ use Rattle.export_places.specs.declared.Place.TheVariants.{Over}
 use Rattle.export_places.specs.Places.{index_at, Stands}
 use Rattle.export.proofs.show.Given as goal
 
-abbrev pub invariant-loop-place : goal.invariant-loop-place
-invariant-loop-place g l =
+abbrev pub invariant-loop-opened : goal.invariant-loop-opened
+invariant-loop-opened g l =
     Sized l.marks l.uses l.starts l.sizes × Stands l.table l.markers l.users l.bases l.marks l.uses l.starts l.sizes l.place × (l.gathered ≤ 65280) × (length l.element ≡ 256) × (length l.text ≡ 65536)
 
-abbrev pub decreases-loop-place : goal.decreases-loop-place
-decreases-loop-place g l = index_at (net_of l.table) Over - index_at (net_of l.table) l.place
+abbrev pub decreases-loop-opened : goal.decreases-loop-opened
+decreases-loop-opened g l = index_at (net_of l.table) Over - index_at (net_of l.table) l.place
