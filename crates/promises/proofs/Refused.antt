@@ -1,5 +1,5 @@
 -- The numbers that the answers of the calls may be refused with, link by link of their chains.
-use mathlib.Core.Path.{◌≡◌}
+use mathlib.Core.Path.{◌≡◌, sym, subst}
 use mathlib.Core.Bool.{Bool, true, false, cond}
 use mathlib.Core.Option.{Option, none, some}
 use mathlib.Core.List.{List, ◌∷◌}
@@ -95,7 +95,8 @@ listed_more k l (Refused x) h t =
 -- the number of an answer that is no `Judged`: 0 where nothing is refused
 pub zero_listed : (l : List ℕ) (a : Judged) {number : ℕ} → number ≡ answer.number_of a → T (listed l a) → T (mem number (0 ∷ l))
 zero_listed l (Fine k) e h = rw e tt
-zero_listed l (Refused x) e h = rw e (or_right (eqb x.number 0) (mem x.number l) (and_left (mem x.number l) (named x) h))
+zero_listed l (Refused x) e h =
+    subst (λ (k : ℕ). T (mem k (0 ∷ l))) (sym e) (or_right (eqb x.number 0) (mem x.number l) (and_left (mem x.number l) (named x) h))
 
 -- ---- a table
 
