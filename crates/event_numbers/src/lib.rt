@@ -19,6 +19,7 @@ enum Weighed {
 }
 
 // What the markers of c come to, one for each persistent precondition, the lowest of which counts slowest.
+#[tactic(auto, using(crate::proofs::Weights::some_left, crate::proofs::Weights::none_left))]
 fn weigh<'a>(
     c: Colour,
     table: &'a [u8],

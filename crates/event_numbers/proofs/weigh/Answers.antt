@@ -1,7 +1,7 @@
 -- `event_numbers::weigh` meets its contract.
 use native.Mathlib.Omega.{arith}
 use mathlib.Core.Path.{◌∙◌, sym}
-use Rattle.event_numbers.proofs.Weights.{carrying_first, none_left, some_left, carrying_past, few_markers, not_marking, marked_fits, carrying_marked}
+use Rattle.event_numbers.proofs.Weights.{carrying_first, carrying_past, few_markers, not_marking, marked_fits, carrying_marked}
 use Rattle.event_numbers.proofs.weigh.Goals as goal
 use Rattle.event_numbers.proofs.weigh.Goals.{then-is_persistent+else-at-c+else-radix-place, else-is_persistent}
 
@@ -24,14 +24,6 @@ overflow_mul-number c =
 pub overflow_add-number : goal.overflow_add-number
 overflow_add-number c =
     omega (arith, marked_fits c.args.table.now c.args.pre.now c.args.c c.loop-i.number c.loop-i.at c.loop-i.i c.loop-i.invariant.2 c.args.markers.now c.requires.weighing.within.marked c.loop-i-test.true c.word_within-b.result c.word_within-b.ensures (sym c.is_persistent.ensures ∙ c.if-is_persistent.true) (omega (arith, c.loop-i.invariant.1, c.if-at-c.false)) c.marker_place-place.result c.marker_place-place.ensures c.number-radix.result c.number-radix.ensures c.if-radix-place.false)
-
-pub returns-then-at-c-2 : goal.returns-then-at-c-2
-returns-then-at-c-2 c =
-    some_left c.args.table.now c.args.pre.now c.args.c c.loop-i.number c.loop-i.at c.loop-i.i c.loop-i.invariant.2 c.loop-i-test.false (omega (arith, c.loop-i.invariant.1, c.if-at-c-2.true))
-
-pub returns : goal.returns
-returns c =
-    none_left c.args.table.now c.args.pre.now c.args.c c.loop-i.number c.loop-i.at c.loop-i.i c.loop-i.invariant.2 c.loop-i-test.false (omega (arith, c.loop-i.invariant.1, c.if-at-c-2.false))
 
 pub loop-i-preserved : goal.loop-i-preserved
 loop-i-preserved c =
