@@ -14,8 +14,8 @@ use crate::elements::{any_exported_table, ask_element};
 use crate::expected::{double_word_bytes, marker_word};
 use crate::nets::{any_net, any_net_across, any_number, any_table, Asked};
 
-/// Each call as often as this says, of their sum; `lossy` takes some of the cases that are drawn for `judge`, so that the cases of all
-/// others are the same with it as without.
+/// Each call as often as this says, of their sum. `lossy` is not among them: [`beside`] asks it in addition, so that a seed gives the same
+/// request of any other call with it as without.
 const OFTEN: [(Call, usize); 28] = [
     (Call::Judge, 6),
     (Call::Counts, 3),
@@ -59,19 +59,11 @@ fn any_call(random: &mut Random) -> Call {
     let mut left = random.below(sum);
     for (call, often) in OFTEN {
         if left < often {
-            return drawn(random, call);
+            return call;
         }
         left -= often;
     }
     Call::Judge
-}
-
-/// The call of a case that is drawn for a call: every other one of `judge` is one of `lossy`.
-fn drawn(random: &mut Random, call: Call) -> Call {
-    match call {
-        Call::Judge if random.below(2) == 0 => Call::Lossy,
-        call => call,
-    }
 }
 
 // ---- outputs
@@ -570,8 +562,19 @@ pub fn call_of(seed: u64) -> Call {
 /// The case of a seed.
 pub fn case(seed: u64) -> Request {
     let mut random = Random::new(seed);
-    let random = &mut random;
-    let call = any_call(random);
+    let call = any_call(&mut random);
+    case_of(&mut random, call)
+}
+
+/// The case of `lossy` that comes beside a seed's own where that is one of `judge`. It is drawn by a generator of its own, and nothing is
+/// drawn for it by that of the seed.
+pub fn beside(seed: u64) -> Option<Request> {
+    let is_judge = call_of(seed) == Call::Judge;
+    is_judge.then(|| case_of(&mut Random::new(!seed), Call::Lossy))
+}
+
+/// The case of a call, drawn by a generator.
+fn case_of(random: &mut Random, call: Call) -> Request {
     let mut request = Request::new(call, &[]);
     request.values = any_values(random, call);
     if call.is_on_record() {

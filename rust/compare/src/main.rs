@@ -6,7 +6,7 @@ use std::sync::mpsc::{sync_channel, Receiver};
 use std::thread;
 use std::time::Instant;
 
-use compare::case::{call_of, case};
+use compare::case::{beside, call_of, case};
 use compare::elements::whole_export;
 use compare::expected::expected;
 use compare::tally::{Sizes, Tally};
@@ -82,9 +82,13 @@ fn made(name: String, request: Request) -> Case {
     }
 }
 
-/// Makes the case of a seed.
-fn made_case(seed: u64) -> Case {
-    made(format!("case {seed}"), case(seed))
+/// Makes the case of a seed, and that of `lossy` beside it, if there is one; where one call is wanted, what is of that call.
+fn made_cases(seed: u64, call: Option<Call>) -> Vec<Case> {
+    let requests = [case(seed)].into_iter().chain(beside(seed));
+    let requests = requests.filter(|request| call.is_none_or(|call| call == request.call));
+    requests
+        .map(|request| made(format!("case {seed}"), request))
+        .collect()
 }
 
 /// Makes a case of every element of a seed's export.
@@ -95,8 +99,13 @@ fn made_export(seed: u64) -> Vec<Case> {
         .collect()
 }
 
-/// The seed of a case by its place in the comparison; where one call is wanted, of a case of that call.
+/// The seed of a case by its place in the comparison; where one call is wanted, of a case of that call, which for `lossy` is beside one of
+/// `judge`.
 fn case_seed(seed: u64, call: Option<Call>, place: u64) -> u64 {
+    let call = call.map(|call| match call {
+        Call::Lossy => Call::Judge,
+        call => call,
+    });
     let mut random = Random::new(seed.wrapping_add(place.wrapping_mul(0xd134_2543_de82_ef95)));
     loop {
         let drawn = random.draw();
@@ -151,17 +160,26 @@ fn case_text(case: &Case, got: &Reply) -> String {
     )
 }
 
+/// The cases of some seeds, and how many seeds those are.
+struct Batch {
+    seeds: u64,
+    cases: Vec<Case>,
+}
+
 /// Starts a thread that makes every `step`-th batch from the first on.
-fn maker(wanted: &Wanted, first: u64, step: u64) -> Receiver<Vec<Case>> {
+fn maker(wanted: &Wanted, first: u64, step: u64) -> Receiver<Batch> {
     let (to, from) = sync_channel(2);
     let (cases, seed, call) = (wanted.cases, wanted.seed, wanted.call);
     thread::spawn(move || {
         let mut place = first * BATCH;
         while place < cases {
             let places = place..cases.min(place + BATCH);
-            let batch = places
-                .map(|at| made_case(case_seed(seed, call, at)))
-                .collect();
+            let batch = Batch {
+                seeds: places.end - places.start,
+                cases: places
+                    .flat_map(|at| made_cases(case_seed(seed, call, at), call))
+                    .collect(),
+            };
             if to.send(batch).is_err() {
                 return;
             }
@@ -199,11 +217,11 @@ impl Compared {
         Ok(())
     }
 
-    /// Compares the cases of a batch, and now and then tells how far it is.
-    fn take_cases(&mut self, batch: &[Case], driver: &mut Driver) -> std::io::Result<()> {
+    /// Compares the cases of a batch, and now and then tells how far it is; those beside others are not counted.
+    fn take_cases(&mut self, batch: &Batch, driver: &mut Driver) -> std::io::Result<()> {
         let told = self.cases / TOLD;
-        self.take(batch, driver)?;
-        self.cases += batch.len() as u64;
+        self.take(&batch.cases, driver)?;
+        self.cases += batch.seeds;
         if self.cases / TOLD > told {
             eprintln!("{} cases, {} differences", self.cases, self.differences);
         }
@@ -258,14 +276,17 @@ fn compare_all(wanted: &Wanted, driver: &mut Driver) -> std::io::Result<bool> {
     Ok(compared.told(wanted, begun.elapsed().as_secs_f64()))
 }
 
-/// Compares one case and shows it.
+/// Compares one case, and the one beside it, and shows them.
 fn compare_one(seed: u64, driver: &mut Driver) -> std::io::Result<bool> {
-    let case = made_case(seed);
-    let got = driver.ask(&case.request)?;
-    println!("{}", case_text(&case, &got));
-    let same = got == case.expected;
-    println!("{}", if same { "no difference" } else { "difference" });
-    Ok(same)
+    let mut all_same = true;
+    for case in made_cases(seed, None) {
+        let got = driver.ask(&case.request)?;
+        println!("{}", case_text(&case, &got));
+        let same = got == case.expected;
+        println!("{}", if same { "no difference" } else { "difference" });
+        all_same &= same;
+    }
+    Ok(all_same)
 }
 
 /// Compares every element of one export.

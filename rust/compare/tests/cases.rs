@@ -2,7 +2,7 @@
 
 use std::collections::{BTreeMap, BTreeSet};
 
-use compare::case::{call_of, case};
+use compare::case::{beside, call_of, case};
 use compare::elements::whole_export;
 use compare::expected::expected;
 use compare::rules::{rules_met, Ruled};
@@ -37,8 +37,27 @@ fn a_seed_gives_one_case() {
 
 #[test]
 fn every_call_comes() {
-    let seen: BTreeSet<Call> = seeds().map(|seed| case(seed).call).collect();
+    let own_and_beside = |seed| [case(seed)].into_iter().chain(beside(seed));
+    let seen: BTreeSet<Call> = seeds().flat_map(own_and_beside).map(|r| r.call).collect();
     assert_eq!(seen.len(), Call::ALL.len());
+}
+
+#[test]
+fn lossy_comes_beside_each_case_of_judge_and_leaves_the_cases_as_they_were() {
+    let mut known = 0xcbf2_9ce4_8422_2325_u64;
+    for seed in seeds() {
+        let request = case(seed);
+        assert_eq!(call_of(seed), request.call);
+        let more = beside(seed);
+        assert_eq!(more.is_some(), request.call == Call::Judge, "seed {seed}");
+        assert_eq!(more, beside(seed), "seed {seed}");
+        assert!(more.is_none_or(|more| more.call == Call::Lossy));
+        for byte in format!("{request:?}").bytes() {
+            known = (known ^ u64::from(byte)).wrapping_mul(0x0100_0000_01b3);
+        }
+    }
+    // the hash of what these seeds gave before there was a call `lossy`
+    assert_eq!(known, 0xbe00_f2a7_b24e_17dd);
 }
 
 #[test]
@@ -322,7 +341,11 @@ fn lossy_events_are_expected_and_what_was_missed_of_them_is_told() {
 #[test]
 fn lossy_events_come_and_each_reason_that_alone_spares_one() {
     let mut tally = Tally::default();
-    for request in cases_of([Call::Lossy, Call::Lossy]).take(400) {
+    for request in (0..60_000)
+        .map(|n| Random::new(n).draw())
+        .filter_map(beside)
+        .take(400)
+    {
         tally.count(&request, &expected(&request));
     }
     let missed = tally.missed(Some(Call::Lossy));
