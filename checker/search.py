@@ -1,76 +1,68 @@
-"""Searches an exported net without a model checker: search.py FILE [--table TABLE] [--never NAME...].. [--most N]
+"""Counts the markings that an exported net reaches, by a search of its own: search.py NET.pnml [MOST]
 
-The words and what is told are those of checker/spin (asked.py says them). Places have no capacity; a marking is a number with a bit for
-each place, which suffices, since no place of an exported net ever has two tokens (doubled.py looks). Markings are gone through nearest
-first, so that the way to one is a shortest. Transitions that put back all that they take lead to no other marking and are left out.
+Places have no capacity. Transitions that put back what they take are left out, since they lead to no other marking. The search ends
+where it would pass MOST markings (1,000,000 if it is not given); the exit status is then 1.
 """
 
+import sys
 import time
-from collections import deque
 
-import asked
-
-
-class Game:
-    """The markings of a net as numbers, and its transitions on them."""
-
-    def __init__(self, net):
-        bit = {place: 1 << index for index, place in enumerate(net.places)}
-        self.bits = lambda places: sum(bit[place] for place in set(places))
-        self.start = self.bits(place for place, tokens in net.places.items() if tokens)
-        self.moves = [(self.bits(net.taken[t]), self.bits(lost), self.bits(gained), t) for t, lost, gained in net.moving()]
-
-    def after(self, marking):
-        """The markings after one transition, each with that transition."""
-        for taken, lost, gained, transition in self.moves:
-            if marking & taken == taken:
-                yield (marking & ~lost) | gained, transition
+import parse
 
 
-def reached(game, most):
-    """The markings that are reached, in order, each with the one before it and the transition between; and whether these are all."""
-    came = {game.start: None}
-    waiting = deque(came)
+def plain(net):
+    """The marking at the start, and for each transition what it takes and how it changes the marking, by the places' numbers."""
+    number = {place: index for index, place in enumerate(net.places)}
+    taken = {transition: {} for transition in net.transitions}
+    changed = {transition: {} for transition in net.transitions}
+    for source, target in net.arcs:
+        into = source in number
+        place, transition = (number[source], target) if into else (number[target], source)
+        if into:
+            taken[transition][place] = taken[transition].get(place, 0) + 1
+        changed[transition][place] = changed[transition].get(place, 0) + (-1 if into else 1)
+    changes = {t: [(p, n) for p, n in changed[t].items() if n] for t in net.transitions}
+    return tuple(net.places.values()), [(list(taken[t].items()), changes[t]) for t in net.transitions]
+
+
+def reached(start, transitions, most):
+    """How many markings are reached, and whether that is all of them."""
+    moving = [(taken, changes) for taken, changes in transitions if changes]
+    seen = {start}
+    waiting = [start]
     while waiting:
-        marking = waiting.popleft()
-        for after, transition in game.after(marking):
-            if after not in came:
-                if len(came) == most:
-                    return came, False
-                came[after] = (marking, transition)
+        marking = waiting.pop()
+        for taken, changes in moving:
+            if any(marking[place] < count for place, count in taken):
+                continue
+            after = list(marking)
+            for place, change in changes:
+                after[place] += change
+            after = tuple(after)
+            if after not in seen:
+                if len(seen) == most:
+                    return len(seen), False
+                seen.add(after)
                 waiting.append(after)
-    return came, True
+    return len(seen), True
 
 
-def way(came, marking):
-    """The transitions from the start to a marking."""
-    steps = []
-    while came[marking]:
-        marking, transition = came[marking]
-        steps.append(transition)
-    return steps[::-1]
-
-
-def breaking(came, groups):
-    """The nearest marking that has a token in each group, or None."""
-    return next((marking for marking in came if all(marking & group for group in groups)), None)
-
-
-def searched(net, properties, words, _):
-    """What the search finds."""
+def main(words):
+    if len(words) not in (1, 2):
+        print("usage: checker/search NET.pnml [MOST]", file=sys.stderr)
+        return 2
+    try:
+        net = parse.read(words[0])
+        most = int(words[1]) if words[1:] else 1_000_000
+    except (parse.Wrong, OSError, ValueError) as wrong:
+        print(f"checker/search: {words[0]}: {wrong}", file=sys.stderr)
+        return 2
     begun = time.process_time()
-    game = Game(net)
-    came, whole = reached(game, words.most)
-    nearest = [breaking(came, [game.bits(group) for group in wanted.groups]) for wanted in properties]
-    ways = [None if marking is None else way(came, marking) for marking in nearest]
-    return asked.Found(len(came), whole, ways, {"searching": time.process_time() - begun})
-
-
-def main():
-    usage = asked.usage("checker/search", "[--most N]", "Searches the net of a table without a model checker, nearest markings first.")
-    usage.add_argument("--most", type=asked.positive, default=1_000_000, metavar="N", help="the most markings (1000000)")
-    return asked.answered("checker/search", usage.parse_args(), searched)
+    count, whole = reached(*plain(net), most)
+    took = time.process_time() - begun
+    print(f"{count} markings{'' if whole else ' and more'} (processor time: searching {took:.1f} s)")
+    return 0 if whole else 1
 
 
 if __name__ == "__main__":
-    asked.end(main)
+    sys.exit(main(sys.argv[1:]))

@@ -90,7 +90,7 @@ const OWN: [&str; 9] = [
 ];
 
 /// What else a repository has, and what is built of it; one page is not for users.
-const OTHERS: [(&str, &str); 11] = [
+const OTHERS: [(&str, &str); 12] = [
     (
         "include/dovetrellis.h",
         "#define DOVETRELLIS_VERSION \"1.2.3\"\n",
@@ -100,6 +100,7 @@ const OTHERS: [(&str, &str); 11] = [
     ("docs/DECISIONS.md", "on decisions\n"),
     ("checker/spin", "#!/bin/sh\n"),
     ("checker/spin.py", "pass\n"),
+    ("checker/next/spin.py", "pass\n"),
     ("rust/target/release/dovetrellis", PROGRAM),
     ("target/libdovetrellis.a", "an archive\n"),
     (
@@ -164,7 +165,7 @@ fn files_below(folder: &Path) -> Vec<String> {
 }
 
 /// What an installation has.
-const INSTALLED: [&str; 21] = [
+const INSTALLED: [&str; 22] = [
     "bin/dovetrellis",
     "include/dovetrellis.h",
     "lib/dovetrellis/dovetrellis",
@@ -181,6 +182,7 @@ const INSTALLED: [&str; 21] = [
     "lib/pkgconfig/dovetrellis.pc",
     "share/bash-completion/completions/dovetrellis",
     "share/doc/dovetrellis/TEXT.md",
+    "share/dovetrellis/checker/next/spin.py",
     "share/dovetrellis/checker/spin",
     "share/dovetrellis/checker/spin.py",
     "share/dovetrellis/dovetrellis",

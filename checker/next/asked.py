@@ -1,4 +1,5 @@
-"""What checker/spin and checker/search have in common: their words, what a NAME stands for, and what is told of each property.
+"""What checker/spin and checker/search have in common where DOVETRELLIS_NEXT is 1, so that they answer as is meant for the next version:
+their words, what a NAME stands for, and what is told of each property.
 
 FILE is a table, as text or records, which is exported first, or an exported net. A net alone is searched by its places, and with --table
 it must be, byte for byte, what the table is exported to. Each --never has one or more NAMEs, which must not hold all at once: a condition
@@ -20,6 +21,9 @@ import shutil
 import sys
 import tempfile
 import traceback
+
+# what the next version takes as it is stands beside this folder
+sys.path.append(os.path.dirname(os.path.dirname(os.path.abspath(__file__))))
 
 import parse
 import table as tables

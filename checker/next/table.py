@@ -12,7 +12,7 @@ import subprocess
 
 import parse
 
-TOP = os.path.dirname(os.path.dirname(os.path.abspath(__file__)))
+TOP = os.path.dirname(os.path.dirname(os.path.dirname(os.path.abspath(__file__))))
 
 # a line on an unfolded condition: its number, and what its condition is called
 UNFOLDED = re.compile(r"(\d+): (\S+)(?: by .*)?\n")
