@@ -201,25 +201,78 @@ impl Words {
     fn at_most(&self, count: usize) -> Stopped<()> {
         nothing_after(self.from(count))
     }
+}
 
-    /// Where no option of its own stands there, a command that was there before takes the words that it took; the next version's takes
-    /// more runs, and the standard input as a file.
-    fn held_to(&self, command: &str) -> Stopped<()> {
-        if next::is_asked() || !self.flags.is_empty() {
-            return Ok(());
+/// The commands that take the words that they took where the next version is not asked for; that takes more runs, the standard input as a
+/// file, and the words after `--` as none of its options.
+const BEFORE: [&str; 8] = [
+    "list", "judge", "unfold", "export", "witness", "pack", "show", "build",
+];
+
+/// A command takes its words as it did before there was any of its options that stand alone.
+fn is_as_before(command: &str, rest: &[String]) -> bool {
+    let flags = options_of(command).flags;
+    let is_flag = |word: &String| flags.contains(&word.as_str());
+    !next::is_asked() && BEFORE.contains(&command) && !rest.iter().any(is_flag)
+}
+
+/// None of the words is an option, since all of them are files and names.
+fn no_options<'a>(mut words: impl Iterator<Item = &'a String>) -> Stopped<()> {
+    match words.find(|word| word.starts_with('-')) {
+        None => Ok(()),
+        Some(word) if word == STANDARD_INPUT => {
+            wrong("'-' is no file; the standard input is /dev/stdin")
         }
-        let (most, files) = match command {
-            "list" => (2, self.from(0)),
-            "judge" => (1, self.from(0)),
-            "witness" => (2, self.plain.get(..1).unwrap_or_default()),
-            "unfold" | "export" | "pack" => (1, self.from(0)),
-            "show" => (usize::MAX, self.from(0)),
-            _ => return Ok(()),
-        };
-        if files.iter().any(|word| word == STANDARD_INPUT) {
-            return wrong("'-' is no file; the standard input is /dev/stdin");
+        Some(word) => no_option(word, &NONE),
+    }
+}
+
+/// The words after `pack` without `-o` and the folder after it.
+fn without_folder(rest: &[String]) -> Stopped<Vec<String>> {
+    let (mut others, mut folders) = (Vec::new(), 0);
+    let mut words = rest.iter();
+    while let Some(word) = words.next() {
+        match (word.as_str(), folders) {
+            ("-o", 0) => {
+                let missing = || Stop::Use("a folder is missing after -o".to_string());
+                words.next().ok_or_else(missing)?;
+                folders = 1;
+            }
+            ("-o", _) => return wrong("-o is there twice"),
+            _ => others.push(word.clone()),
         }
-        self.at_most(most)
+    }
+    Ok(others)
+}
+
+/// A command takes no other words than before, and tells of wrong ones what it told, in the same order.
+fn held_to(command: &str, rest: &[String]) -> Stopped<()> {
+    let missing = |what: &str| Stop::Use(format!("{what} is missing"));
+    match command {
+        "build" => return wrong("only the script builds"),
+        "witness" => {
+            let table = rest.first().ok_or_else(|| missing("TABLE"))?;
+            no_options([table].into_iter())?;
+            let trace = rest.get(1).ok_or_else(|| missing("TRACE"))?;
+            no_options([trace].into_iter().filter(|trace| *trace != STANDARD_INPUT))?;
+            return nothing_after(&rest[2..]);
+        }
+        _ => {}
+    }
+    let words = match command {
+        "pack" => without_folder(rest)?,
+        _ => rest.to_vec(),
+    };
+    no_options(words.iter())?;
+    let (most, needed) = match command {
+        "list" => (2, None),
+        "show" => (usize::MAX, Some("TABLE")),
+        "pack" => (1, Some("FILE")),
+        _ => (1, Some("TABLE")),
+    };
+    match needed.filter(|_| words.is_empty()) {
+        Some(what) => Err(missing(what)),
+        None => nothing_after(words.get(most..).unwrap_or_default()),
     }
 }
 
@@ -245,9 +298,13 @@ pub fn asked(words: &[String]) -> Stopped<Asked> {
     if !COMMANDS.contains(&command.as_str()) {
         return unknown(command);
     }
-    let options = rest.iter().take_while(|word| *word != "--");
-    if options.clone().any(|word| word == "-h" || word == "--help") {
+    let is_as_before = is_as_before(command, rest);
+    let mut options = rest.iter().take_while(|word| is_as_before || *word != "--");
+    if options.any(|word| word == "-h" || word == "--help") {
         return Ok(Asked::Help(help_of(command)));
+    }
+    if is_as_before {
+        held_to(command, rest)?;
     }
     asked_of(command, rest)
 }
@@ -268,7 +325,6 @@ fn options_of(command: &str) -> Options {
 /// What the words after a command ask for.
 fn asked_of(command: &str, rest: &[String]) -> Stopped<Asked> {
     let words = Words::parted(rest, &options_of(command))?;
-    words.held_to(command)?;
     match command {
         "list" => Ok(asked_list(&words)),
         "pack" => {

@@ -5,6 +5,7 @@ use std::io::{self, Read};
 use std::path::Path;
 use std::sync::atomic::{AtomicBool, Ordering};
 
+use crate::next;
 use crate::stop::{Stop, Stopped};
 
 /// The word that stands for the standard input where a file is given; a file of that name is './-'.
@@ -155,6 +156,18 @@ pub fn looks_like(bytes: &[u8]) -> Option<&'static str> {
     }
 }
 
+/// Where a byte is a control character other than a tab and the ends of lines; only in the next version the one that deletes is one.
+pub fn control_at(bytes: &[u8]) -> Option<usize> {
+    let deletes = |byte: &u8| *byte == 0x7f && next::is_asked();
+    let places = [text::control_at(bytes), bytes.iter().position(deletes)];
+    places.into_iter().flatten().min()
+}
+
+/// The bytes are taken as text: there are some, and none is a control character.
+pub fn is_text(bytes: &[u8]) -> bool {
+    !bytes.is_empty() && control_at(bytes).is_none()
+}
+
 /// What a file looks like that does not begin with a record of such a kind; nothing where it does, or looks like nothing known.
 fn no_such_record(bytes: &[u8], kinds: &[u8]) -> String {
     match looks_like(bytes) {
@@ -168,10 +181,18 @@ fn no_such_record(bytes: &[u8], kinds: &[u8]) -> String {
 /// where it does begin so.
 pub fn why_records(bytes: &[u8], kinds: &[u8]) -> String {
     let why = no_such_record(bytes, kinds);
-    match text::control_at(bytes) {
+    match control_at(bytes) {
         Some(at) if why.is_empty() && !begins_with(bytes, kinds) => {
             format!("; it is not taken as text, since byte {at} is a control character")
         }
         _ => why,
+    }
+}
+
+/// The same where the next version is asked for; else what the file looks like alone.
+pub fn why_records_in_next(bytes: &[u8], kinds: &[u8]) -> String {
+    match next::is_asked() {
+        true => why_records(bytes, kinds),
+        false => no_such_record(bytes, kinds),
     }
 }

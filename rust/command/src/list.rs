@@ -114,7 +114,12 @@ pub fn list(table: Option<&str>, runs: &[String], form: Form, out: &mut impl Wri
         .into_owned();
     let table = table.unwrap_or(&example);
     let table = source::read_before_runs(table, runs)?;
-    let runs = table.runs_or_first(runs)?;
+    let runs = match form {
+        Form::Program if !next::is_asked() => {
+            vec![table.named_run(runs.first().map(String::as_str))?]
+        }
+        _ => table.runs_or_first(runs)?,
+    };
     match form {
         Form::Names => write_names(&table, &runs, out),
         Form::Json => write_json(&table, &runs, out),

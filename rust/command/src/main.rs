@@ -6,7 +6,7 @@ use std::process::ExitCode;
 
 use command::asked::{asked, Asked};
 use command::stop::{Stop, Stopped};
-use command::{exchange, export, fire, judge, list, pack, replay, unfold, version, witness};
+use command::{exchange, export, fire, judge, list, next, pack, replay, unfold, version, witness};
 
 /// Does what is asked; the answer goes to the given output.
 fn act(asked: Asked, out: &mut impl Write) -> Stopped<()> {
@@ -38,7 +38,10 @@ fn act(asked: Asked, out: &mut impl Write) -> Stopped<()> {
 fn words() -> Stopped<Vec<String>> {
     let no_text = |word: OsString| {
         let what = "is not in UTF-8, and no file whose name is not can be given";
-        Stop::Use(format!("the word {word:?} {what}"))
+        Stop::Use(match next::is_asked() {
+            true => format!("the word {word:?} {what}"),
+            false => format!("{word:?} is no text"),
+        })
     };
     let words = std::env::args_os().skip(1);
     words

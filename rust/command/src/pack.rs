@@ -93,13 +93,13 @@ pub fn pack(path: &str, folder: Option<&str>, out: &mut impl Write) -> Stopped<(
     Ok(())
 }
 
-/// The runs of files that are asked for; those that are asked for by a name stand in the table's text already.
+/// The runs of files that are asked for. In the next version those that are asked for by a name stand in the table's text already.
 fn runs_of_files(table: &Source, asked: &[String]) -> Stopped<Vec<RunSource>> {
+    if !next::is_asked() {
+        return asked.iter().map(|file| read_run(file)).collect();
+    }
     let is_file = |word: &&String| table.own_run(word).is_none();
     let files: Vec<String> = asked.iter().filter(is_file).cloned().collect();
-    if !next::is_asked() {
-        return files.iter().map(|file| read_run(file)).collect();
-    }
     match files.is_empty() {
         true => Ok(Vec::new()),
         false => table.asked_runs(&files),
@@ -117,9 +117,13 @@ fn add_run(table: &mut Table, name: Option<String>, steps: Vec<u16>) {
     });
 }
 
-/// Writes a table and runs of it as text; in the next version, where there are runs, with the digest of the table that they are for.
+/// Writes a table and runs of it as text; in the next version, where there are runs, with the digest of the table that they are for, and
+/// where table and run are likely exchanged that is said.
 pub fn show(path: &str, runs: &[String], out: &mut impl Write) -> Stopped<()> {
-    let mut table = source::read_before_runs(path, runs)?;
+    let mut table = match next::is_asked() {
+        true => source::read_before_runs(path, runs)?,
+        false => source::read(path)?,
+    };
     let runs = runs_of_files(&table, runs)?;
     let mut library = library_for(&table)?;
     for run in runs {

@@ -5,8 +5,9 @@ use std::path::Path;
 use text::{Log, Place, Run, Table, Trouble};
 
 use crate::errors::say;
-use crate::files::{bytes_of, called, is_there, looks_like, meant, near};
-use crate::files::{why_records, TABLE_KINDS};
+use crate::files::{bytes_of, called, control_at, is_text, is_there, looks_like, meant, near};
+use crate::files::{why_records, why_records_in_next, STANDARD_INPUT, TABLE_KINDS};
+use crate::next;
 use crate::stop::{Stop, Stopped};
 
 /// A table as it is given.
@@ -84,9 +85,18 @@ fn no_table(path: &str, given: &[u8], troubles: Vec<Trouble>) -> Stop {
     }
 }
 
+/// The table that a text spells. What keeps it from being one is its first trouble; in the next version all of them, and that it looks
+/// like a log.
+fn table_in(path: &str, given: &[u8]) -> Stopped<Table> {
+    match next::is_asked() {
+        true => text::read_all(given).map_err(|troubles| no_table(path, given, troubles)),
+        false => text::read(given).map_err(|trouble| Stop::Text(format!("{path}: {trouble}"))),
+    }
+}
+
 /// The table that the text of a file spells; a digest that it states must be its own.
 fn spelled(path: &str, given: &[u8]) -> Stopped<Source> {
-    let table = text::read_all(given).map_err(|troubles| no_table(path, given, troubles))?;
+    let table = table_in(path, given)?;
     let source = Source {
         path: path.to_string(),
         bytes: table.bytes(),
@@ -101,7 +111,7 @@ fn spelled(path: &str, given: &[u8]) -> Stopped<Source> {
 pub fn read_text(path: &str) -> Stopped<Source> {
     let given = bytes_of(path)?;
     let path = called(path);
-    if let Some(at) = text::control_at(&given) {
+    if let Some(at) = control_at(&given) {
         let what = match looks_like(&given) {
             Some(what) => format!("this is no text table; it looks like {what}"),
             None => format!("byte {at} is a control character, so this is no text"),
@@ -115,7 +125,7 @@ pub fn read_text(path: &str) -> Stopped<Source> {
 pub fn read(path: &str) -> Stopped<Source> {
     let bytes = bytes_of(path)?;
     let path = called(path);
-    if text::is_text(&bytes) {
+    if is_text(&bytes) {
         return spelled(path, &bytes);
     }
     asked_with(path, &bytes)?;
@@ -130,7 +140,7 @@ pub fn read(path: &str) -> Stopped<Source> {
 /// The run of a record file.
 pub fn read_run(path: &str) -> Stopped<RunSource> {
     let bytes = bytes_of(path)?;
-    if text::is_text(&bytes) {
+    if is_text(&bytes) {
         let what = "is text; a run is a record file, or the name of a run in a text table";
         return Err(Stop::Use(format!("{path} {what}")));
     }
@@ -153,8 +163,12 @@ fn recorded(path: &str, bytes: Vec<u8>) -> Stopped<RunSource> {
 /// The table of a file that another word comes after, a run or an event; where that word is a file and the table none, the two are likely
 /// exchanged.
 pub fn read_before(path: &str, next: Option<&str>, what: &str) -> Stopped<Source> {
+    let is_file = |path: &str| match next::is_asked() {
+        true => is_there(path),
+        false => path == STANDARD_INPUT || Path::new(path).exists(),
+    };
     match next {
-        Some(next) if !is_there(path) && is_there(next) => Err(Stop::Use(format!(
+        Some(next) if !is_file(path) && is_file(next) => Err(Stop::Use(format!(
             "'{path}' is no file; the table comes first, then the {what}"
         ))),
         _ => read(path),
@@ -227,7 +241,7 @@ impl Source {
     pub fn runs_of(&self, path: &str) -> Stopped<Vec<RunSource>> {
         let bytes = bytes_of(path)?;
         let path = called(path);
-        if text::is_text(&bytes) {
+        if is_text(&bytes) {
             return self.runs_of_log(path, &bytes);
         }
         Ok(vec![recorded(path, bytes)?])
@@ -244,7 +258,10 @@ impl Source {
         let names = self.run_names();
         let known = match (self.is_text, names.is_empty()) {
             (false, _) => {
-                let why = why_records(&self.bytes, TABLE_KINDS);
+                let why = match next::is_asked() {
+                    true => why_records(&self.bytes, TABLE_KINDS),
+                    false => String::new(),
+                };
                 format!("{} is no text, so its runs are files{why}", self.path)
             }
             (true, true) => format!("{} has no runs", self.path),
@@ -265,7 +282,7 @@ impl Source {
         let what = match self.is_text {
             true => "has no run, so RUN must be given".to_string(),
             false => {
-                let why = why_records(&self.bytes, TABLE_KINDS);
+                let why = why_records_in_next(&self.bytes, TABLE_KINDS);
                 format!("is no text, so no run stands in it and RUN must be given{why}")
             }
         };
@@ -327,6 +344,21 @@ impl Source {
             [] => Ok(vec![self.first_run()?]),
             asked => self.asked_runs(asked),
         }
+    }
+
+    /// The run that is asked for as `list` takes it without the next version: by its name in the text, or else a file of a record; without
+    /// either, the text's first run.
+    pub fn named_run(&self, asked: Option<&str>) -> Stopped<RunSource> {
+        let Some(name) = asked else {
+            return self.first_run();
+        };
+        if let Some(index) = self.table.run_called(name) {
+            return Ok(self.run(index));
+        }
+        if matches!(Path::new(name).try_exists(), Ok(false)) {
+            return Err(self.no_run(name));
+        }
+        read_run(name)
     }
 
     /// The one run that is asked for: by its name in the text, or else a file of one run; without either, the text's first run.

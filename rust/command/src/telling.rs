@@ -3,7 +3,7 @@
 use text::{Event, Listed, Part, PAPER};
 use wire::{Failure, Refusal};
 
-use crate::files::{begins_with, why_records, RUN_KINDS, TABLE_KINDS};
+use crate::files::{begins_with, why_records, why_records_in_next, RUN_KINDS, TABLE_KINDS};
 use crate::next;
 use crate::source::{RunSource, Source, MOST_STEPS};
 use crate::stop::{Stop, Told};
@@ -252,7 +252,7 @@ impl Source {
         match (refusal.number, run.places.first()) {
             (10..=12 | 15, _) => {}
             (1..=9, None) => {
-                let why = why_records(&run.bytes, RUN_KINDS);
+                let why = why_records_in_next(&run.bytes, RUN_KINDS);
                 return format!("byte {} of {called}{why}", refusal.place);
             }
             (1..=9, Some(first)) => {

@@ -62,7 +62,8 @@ fn transition(place: Place, word: &str) -> Result<u16, Trouble> {
     })
 }
 
-/// The first carriage return without a line feed after it, which ends no line: a comment before it would swallow the steps after it.
+/// The first carriage return without a line feed after it, which ends no line: a comment before it would swallow the steps after it. Only in
+/// the next version is it an error.
 fn lone_return(text: &str) -> Option<Trouble> {
     let mut returns = text.match_indices('\r').map(|(at, _)| text.split_at(at));
     let (before, _) = returns.find(|(_, rest)| !rest.starts_with("\r\n"))?;
@@ -80,7 +81,7 @@ fn lone_return(text: &str) -> Option<Trouble> {
 
 /// The steps of a text, each with its place.
 fn steps_of(text: &str) -> Result<Vec<(u16, Place)>, Trouble> {
-    if let Some(trouble) = lone_return(text) {
+    if let Some(trouble) = lone_return(text).filter(|_| next::is_asked()) {
         return Err(trouble);
     }
     let lines = (1..).zip(text.lines());
@@ -99,7 +100,7 @@ const NOTHING: &str = "nothing stands in it; a trace has transitions, as t12 or 
 
 /// What keeps bytes from being a trace before their words are looked at.
 fn no_trace(bytes: &[u8]) -> Option<String> {
-    let at = text::control_at(bytes)?;
+    let at = files::control_at(bytes)?;
     Some(match looks_like(bytes) {
         Some(what) => format!("this is no trace; it looks like {what}"),
         None => format!("byte {at} is a control character, so this is no trace"),

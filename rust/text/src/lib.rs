@@ -2,6 +2,7 @@
 
 mod alike;
 mod digest;
+mod first;
 mod grammar;
 mod log;
 mod meaning;
@@ -26,9 +27,9 @@ pub use table::{Condition, Event, Listed, Log, Run, Table, OLD, PAPER};
 pub use trouble::{lines, quoted, Place, Trouble};
 pub use words::{read_event, read_set};
 
-/// Where a byte is a control character other than a tab and the ends of lines.
+/// Where a byte is a control character other than a tab and the ends of lines, and other than the one that deletes.
 pub fn control_at(bytes: &[u8]) -> Option<usize> {
-    let control = |byte: &u8| byte.is_ascii_control() && !matches!(byte, b'\t' | b'\n' | b'\r');
+    let control = |byte: &u8| *byte < 0x20 && !matches!(byte, b'\t' | b'\n' | b'\r');
     bytes.iter().position(control)
 }
 

@@ -3,6 +3,7 @@
 use std::collections::BTreeSet;
 use std::ops::RangeInclusive;
 
+use crate::first;
 use crate::grammar::{Element, List, Statement, Written};
 use crate::names::{fits, Label, Names};
 use crate::records::{MOST_EVENT_LISTS, MOST_LIST, MOST_NUMBERED};
@@ -291,10 +292,25 @@ pub fn decoded(bytes: &[u8]) -> Result<&str, Trouble> {
     trouble(place, "text in UTF-8", found)
 }
 
-/// The table and the runs that a text states, or what first keeps it from being turned into records.
+/// The table and the runs that a text states, or what first keeps it from being turned into records: what a reader finds that stops there.
+/// That reader knows no digest, so of a text that states one it is the first that is found here.
 pub fn read(bytes: &[u8]) -> Result<Table, Trouble> {
-    let meaning = meaning_of(decoded(bytes)?);
-    meaning.troubles.first_or(meaning.table)
+    let text = decoded(bytes)?;
+    let meaning = meaning_of(text);
+    let read = meaning.troubles.first_or(meaning.table);
+    read.map_err(|trouble| match states_digest(text) {
+        false => first::read(bytes).err().unwrap_or(trouble),
+        true => trouble,
+    })
+}
+
+/// A line of a text states a digest, be it a right one or not.
+fn states_digest(text: &str) -> bool {
+    text.lines().any(|line| {
+        let after = line.trim_start().strip_prefix("table");
+        let after = after.and_then(|rest| rest.trim_start().strip_prefix(':'));
+        after.is_some_and(|rest| rest.trim_start().starts_with("sha256-"))
+    })
 }
 
 /// The table and the runs that a text states, or all that keeps it from being turned into records, in the order of the text.

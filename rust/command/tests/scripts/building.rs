@@ -127,18 +127,23 @@ fn the_archive_for_c_is_built_once() {
 }
 
 #[test]
-fn a_closed_output_is_an_error() {
+fn a_closed_output_is_an_error_in_the_next_version() {
     let _one = one_test();
     let repository = repository(IDLE, &[]);
-    let mut shell = Command::new("bash");
-    shell.args(["-c", "\"$0\" help >&-"]);
-    let output = shell.arg(repository.path().join("dovetrellis")).output();
-    let output = output.unwrap();
+    let closed = |next: &str| {
+        let mut shell = Command::new("bash");
+        shell.args(["-c", "\"$0\" help >&-"]);
+        shell.env("DOVETRELLIS_NEXT", next);
+        let output = shell.arg(repository.path().join("dovetrellis")).output();
+        output.unwrap()
+    };
+    let output = closed("1");
     let expected = "dovetrellis: the standard output is closed: nothing can be written there\n";
     assert_eq!(
         (output.status.code(), said(&output).as_str()),
         (Some(2), expected)
     );
+    assert!(!said(&closed("")).contains("closed"));
 }
 
 /// A kit that tells its version.

@@ -321,12 +321,13 @@ fn the_checker_finds_the_installed_command() {
 }
 
 #[test]
-fn an_installed_command_refuses_a_closed_output() {
+fn an_installed_command_refuses_a_closed_output_in_the_next_version() {
     let _one = one_test();
     let (_repository, prefix) = installed();
     let mut shell = Command::new("sh");
     shell
         .args(["-c", "\"$0\" list >&-"])
+        .env("DOVETRELLIS_NEXT", "1")
         .arg(prefix.join("bin/dovetrellis"));
     let output = shell.output().unwrap();
     let expected = "dovetrellis: the standard output is closed: nothing can be written there\n";
