@@ -2,8 +2,8 @@
 use Rattle.std.specs.Prelude.{ℕ, ◌+◌, ◌≤◌, ◌<◌, ◌≡◌, List, leb, length, get_or}
 use Rattle.model.specs.Numbering.{size}
 use Rattle.model.specs.Across.{most_steps, unfolding_refused}
-use Rattle.refusal.specs.declared.Judged.{Judged}
-use Rattle.refusal.specs.declared.Judged.TheVariants.{Fine}
+use Rattle.refusal.specs.Answer.{Judged}
+use Rattle.std.specs.Prelude.{Ok}
 use Rattle.refusal.specs.Answer.{need, and_then}
 use Rattle.table.specs.Walk.{judge_of}
 use Rattle.table.specs.Decoded.{net_of}
@@ -22,8 +22,8 @@ pub record Ready (s : List ℕ) (steps : ℕ) (markers users bases before : List
 
 -- What laying out for a run answers: the prefix with the number of the table's events, and the numbers where it is fine.
 pub record Prepared (s : List ℕ) (steps : ℕ) (r : Judged) (markers users bases before : List ℕ) : Type 0 where
-  pub answer : r ≡ prepared_of s steps (Fine (net_of s).events)
-  pub ready : (k : ℕ) → r ≡ Fine k → Ready s steps markers users bases before
+  pub answer : r ≡ prepared_of s steps (Ok (net_of s).events)
+  pub ready : (k : ℕ) → r ≡ Ok k → Ready s steps markers users bases before
 
 -- A number lies at or past what stands at one place of a list, and before what stands at a later one.
 pub record Around (before : List ℕ) (low high j : ℕ) : Type 0 where

@@ -9,7 +9,7 @@ ghost use Rattle.layout.specs.Laid.{Sums};
 ghost use Rattle.unfolding.specs.Numbers.{Within};
 ghost use Rattle.across.specs.Prepared.{Prepared, Between, Around};
 
-use refusal::Judged;
+use refusal::Refusal;
 
 // Before each event, and after the last, how many unfolded events stand before it.
 pub fn sizes_before<'a>(table: &'a [u8], events: usize, markers: &'a [u32], before: &mut [u32])
@@ -37,22 +37,16 @@ pub fn lay_out_run(
     users: &mut [u32],
     bases: &mut [u32],
     before: &mut [u32],
-) -> Judged
+) -> Result<usize, Refusal>
     requires markers_len { (length markers.old ≡ 256) × (length users.old ≡ 256) × (length bases.old ≡ 257) }
     requires before_len { length before.old ≡ 257 }
     ensures { Prepared table.now steps result markers.new users.new bases.new before.new }
 {
     if refusal::MOST_STEPS < steps {
-        let r = table::judge(table);
-        let Judged::Fine(_) = r else {
-            return r;
-        };
+        table::judge(table)?;
         return refusal::refused(3, 0);
     }
-    let r = layout::lay_out(table, markers, users, bases);
-    let Judged::Fine(events) = r else {
-        return r;
-    };
+    let events = layout::lay_out(table, markers, users, bases)?;
     sizes_before(table, events, &markers[..], before);
     r
 }

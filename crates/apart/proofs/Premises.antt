@@ -7,7 +7,7 @@ use borrow.Author.Tests.{eq-eqb, ne_eqb}
 use Rattle.lists.specs.Lists.{all}
 use Rattle.model.specs.Net.{Net, Marking}
 use Rattle.model.specs.Exchange.{touch, apart}
-use Rattle.refusal.specs.declared.Judged.TheVariants.{Fine}
+use Rattle.std.specs.Prelude.{Ok}
 use Rattle.words.specs.Words.{words}
 use Rattle.records.specs.Records.{flags, pre_part, post_part}
 use Rattle.table.specs.Decoded.{net_of}
@@ -46,7 +46,7 @@ module _ (s : List ℕ) (m : Marking) (e here f there : ℕ) (p : Found s e here
   premises : apart (net_of s) m e f ≡ (true && (taken && put) && read && both)
   unfolding apart touch
   premises =
-      rw (net_judged s (Fine p.events) p.judged, ne_eqb e f differ, is_kept, is_pre_e, is_post_e, is_pre_f, is_post_f, p.place, q.place, all_append)
+      rw (net_judged s (Ok p.events) p.judged, ne_eqb e f differ, is_kept, is_pre_e, is_post_e, is_pre_f, is_post_f, p.place, q.place, all_append)
 
   pub apart_by : (a b c d : Bool) → a ≡ taken → b ≡ put → c ≡ read → d ≡ both → ((a && b) && c && d) ≡ apart (net_of s) m e f
   apart_by a b c d x y z w = rw (x, y, z, w) (sym premises)

@@ -19,7 +19,7 @@ use Rattle.model.specs.Across.{within, lowest_idle, idle_or_over, unfolding_refu
 use Rattle.model.proofs.Unfolded.{colour_out, origin_in}
 use Rattle.model.proofs.Counts.{count_conditions}
 use Rattle.model.proofs.Idle.{touches_nothing}
-use Rattle.refusal.specs.declared.Judged.TheVariants.{Fine}
+use Rattle.std.specs.Prelude.{Ok}
 use Rattle.table.specs.Walk.{judge_of}
 use Rattle.table.specs.Decoded.{net_of}
 use Rattle.table.proofs.Sound.{accepted_sound}
@@ -113,7 +113,7 @@ module _ (n : Net) (x : Sound n) (u : unfolding_refused n ≡ none) (j : ℕ) (h
       (nil ((basic n).preconditions j) (omega (arith, length-append ((basic n).preconditions j) (map (second (basic n)) (without ((basic n).postconditions j) (excusing (basic n) ((basic n).preconditions j)))))))
       (nil ((basic n).postconditions j) (omega (arith, length-append ((basic n).postconditions j) (map (second (basic n)) (without ((basic n).preconditions j) (excusing (basic n) ((basic n).postconditions j))))))))
 
-pub arcs_some : (s : List ℕ) (k : ℕ) → judge_of s ≡ Fine k → unfolding_refused (net_of s) ≡ none → (j : ℕ) → j < (basic (net_of s)).events → 0 < arcs_at (net_of s) j
+pub arcs_some : (s : List ℕ) (k : ℕ) → judge_of s ≡ Ok k → unfolding_refused (net_of s) ≡ none → (j : ℕ) → j < (basic (net_of s)).events → 0 < arcs_at (net_of s) j
 unfolding arcs_at
 arcs_some s k q u j h = go (dec_le (arcs_at (net_of s) j) 0)
   where

@@ -7,8 +7,8 @@ use Rattle.words.specs.Words.{words}
 use Rattle.model.specs.Net.{begin}
 use Rattle.model.specs.Lent.{bytes}
 use Rattle.refusal.specs.declared.Refusal.{Refusal}
-use Rattle.refusal.specs.declared.Judged.{Judged}
-use Rattle.refusal.specs.declared.Judged.TheVariants.{Fine, Refused}
+use Rattle.refusal.specs.Answer.{Judged}
+use Rattle.std.specs.Prelude.{Ok, Err}
 use Rattle.refusal.specs.Answer.{and_then, fitting, written}
 use Rattle.records.specs.Records.{conditions, pre_part, post_part}
 use Rattle.table.specs.Walk.{judge_of}
@@ -24,19 +24,19 @@ module _ (x : Judged) (list out : List ℕ) (needed : ℕ) where
   abbrev whole : Judged
   whole = and_then x (λ at. fitting needed (length out))
 
-  pub listed_refused : (r : Judged) (refusal : Refusal) → r ≡ x → r ≡ Refused refusal → (r ≡ whole) × (out ≡ written whole list out)
+  pub listed_refused : (r : Judged) (refusal : Refusal) → r ≡ x → r ≡ Err refusal → (r ≡ whole) × (out ≡ written whole list out)
   listed_refused r refusal e t =
-      let told : x ≡ Refused refusal = sym e ∙ t in
+      let told : x ≡ Err refusal = sym e ∙ t in
       (t ∙ sym (ap (λ (y : Judged). and_then y (λ at. fitting needed (length out))) told), rw told)
 
-  pub listed_fine : (at : ℕ) → x ≡ Fine at → (r : Judged) (l after : List ℕ) (count : ℕ) → l ≡ list → count ≡ needed → r ≡ fitting count (length out) → after ≡ written r l out
+  pub listed_fine : (at : ℕ) → x ≡ Ok at → (r : Judged) (l after : List ℕ) (count : ℕ) → l ≡ list → count ≡ needed → r ≡ fitting count (length out) → after ≡ written r l out
       → (r ≡ whole) × (after ≡ written whole list out)
   listed_fine at t r l after count e k f g =
       let same : r ≡ whole = f ∙ ap (λ (y : ℕ). fitting y (length out)) k ∙ sym (ap (λ (y : Judged). and_then y (λ at. fitting needed (length out))) t) in
       (same, g ∙ ap (λ (y : List ℕ). written r y out) e ∙ ap (λ (y : Judged). written y list out) same)
 
 -- The lists of an event that was found.
-module _ (s : List ℕ) (e at : ℕ) (t : asked_of s e ≡ Fine at) where
+module _ (s : List ℕ) (e at : ℕ) (t : asked_of s e ≡ Ok at) where
   pub pre_read : (l : List ℕ) → l ≡ pre_part s at → words l ≡ (net_of s).preconditions e
   unfolding net_of
   pre_read l p = let a = asked_fine s e at t in simp a.judged (ap words p ∙ ap (λ (x : ℕ). words (pre_part s x)) a.at_is)
@@ -46,7 +46,7 @@ module _ (s : List ℕ) (e at : ℕ) (t : asked_of s e ≡ Fine at) where
   post_read l p = let a = asked_fine s e at t in simp a.judged (ap words p ∙ ap (λ (x : ℕ). words (post_part s x)) a.at_is)
 
 -- The start of a judged table, once its marking is there as words.
-pub start_fine : (s : List ℕ) (n : ℕ) → judge_of s ≡ Fine n → (held : List ℕ) → held_in held ≡ begin (net_of s) → (count : ℕ) → count ≡ conditions s
+pub start_fine : (s : List ℕ) (n : ℕ) → judge_of s ≡ Ok n → (held : List ℕ) → held_in held ≡ begin (net_of s) → (count : ℕ) → count ≡ conditions s
     → (out after : List ℕ) (r : Judged) → r ≡ fitting count (length out) → after ≡ written r (bytes count (held_in held)) out
     → (r ≡ start_of s (length out)) × (after ≡ start_into s out)
 unfolding start_of start_into

@@ -22,7 +22,7 @@ use Rattle.model.proofs.Unfolded.{copy_in, ordinary_in_lem, kind_of, pair_of}
 use Rattle.model.proofs.Numbers.{same_condition_eq, condition_at_lem}
 use Rattle.model.proofs.Counts.{marker_at_lem, condition_counted}
 use Rattle.model.proofs.Sets.{conditions_paper}
-use Rattle.refusal.specs.declared.Judged.TheVariants.{Fine}
+use Rattle.std.specs.Prelude.{Ok}
 use Rattle.refusal.specs.Answer.{refused_at}
 use Rattle.refusal.proofs.Chain.{need_passes, need_refuses}
 use Rattle.unfolding.proofs.Numbered.{index_found, marker_in}
@@ -30,22 +30,22 @@ use Rattle.condition_numbers.specs.Answers.{numbered}
 
 module _ (n : Net) where
   -- there is such a condition
-  there : (p : UnfoldedCondition) → p ∈ unfolded_conditions n → numbered n p ≡ Fine (counted_condition n p)
+  there : (p : UnfoldedCondition) → p ∈ unfolded_conditions n → numbered n p ≡ Ok (counted_condition n p)
   unfolding numbered basic
   there p i =
       let low = lt-ltb (condition_number n p) (length (unfolded_conditions n)) (at_lt (unfolded_conditions n) (condition_number n p) (condition_at_lem n p i)) in
-      need_passes 10 0 low ∙ ap Fine (condition_counted n p i)
+      need_passes 10 0 low ∙ ap Ok (condition_counted n p i)
 
   -- there is none
   absent : (p : UnfoldedCondition) → (p ∈ unfolded_conditions n → ⊥) → refused_at 10 0 ≡ numbered n p
   unfolding numbered basic condition_number
   absent p f =
-      sym (need_refuses 10 0 (Fine (condition_number n p)) (is_false (ltb (condition_number n p) (length (unfolded_conditions n)))
+      sym (need_refuses 10 0 (Ok (condition_number n p)) (is_false (ltb (condition_number n p) (length (unfolded_conditions n)))
       (λ t. let r = index_found (same_condition p) (unfolded_conditions n) (ltb→lt (condition_number n p) (length (unfolded_conditions n)) t) in
       f (subst (λ (q : UnfoldedCondition). q ∈ unfolded_conditions n) (sym (same_condition_eq p r.0 r.2)) r.1))))
 
   module _ (b : ℕ) where
-    pub ordinary_there : b < n.conditions → n.persistent b ≡ false → Fine (sum (width n) b) ≡ numbered n (ordinary b)
+    pub ordinary_there : b < n.conditions → n.persistent b ≡ false → Ok (sum (width n) b) ≡ numbered n (ordinary b)
     unfolding counted_condition
     ordinary_there h p = sym (there (ordinary b) (ordinary_in_lem n b h p))
 
@@ -60,7 +60,7 @@ module _ (n : Net) where
 
     module _ (m : Marker) (u : ℕ) where
       pub copy_there : b < n.conditions → n.persistent b ≡ true → index (same_marker m) (markers n b) < length (markers n b) → index (eqb u) (users n b) < length (users n b)
-          → Fine (sum (width n) b + (index (same_marker m) (markers n b) * length (users n b) + index (eqb u) (users n b))) ≡ numbered n (copy b m u)
+          → Ok (sum (width n) b + (index (same_marker m) (markers n b) * length (users n b) + index (eqb u) (users n b))) ≡ numbered n (copy b m u)
       unfolding counted_condition
       copy_there h p i k =
           let r = index_found (eqb u) (users n b) k in

@@ -4,8 +4,8 @@ use Rattle.model.specs.Net.{Net}
 use Rattle.model.specs.Unfolding.{UnfoldedCondition, ordinary, copy, basic}
 use Rattle.model.specs.Numbering.{condition_number}
 use Rattle.refusal.specs.declared.Marker as declared
-use Rattle.refusal.specs.declared.Judged.{Judged}
-use Rattle.refusal.specs.declared.Judged.TheVariants.{Fine}
+use Rattle.refusal.specs.Answer.{Judged}
+use Rattle.std.specs.Prelude.{Ok}
 use Rattle.refusal.specs.Answer.{need}
 use Rattle.table.specs.Decoded.{net_of}
 use Rattle.layout.specs.Unfolds.{unfolding_of}
@@ -13,7 +13,7 @@ use Rattle.unfolding.specs.Markers.{meant}
 
 -- The number of an unfolded condition, 10 where there is no such one (01, Runs across).
 unfoldable pub numbered : Net → UnfoldedCondition → Judged
-numbered n p = need (ltb (condition_number n p) (basic n).conditions) 10 0 (Fine (condition_number n p))
+numbered n p = need (ltb (condition_number n p) (basic n).conditions) 10 0 (Ok (condition_number n p))
 
 -- The number for an ordinary condition (01, Runs across).
 abbrev pub ordinary_number : List ℕ → ℕ → Judged

@@ -4,19 +4,16 @@
 ghost use Rattle.std.specs.Prelude.{◌≡◌};
 ghost use Rattle.condition_numbers.specs.Answers.{ordinary_number, copy_number};
 
-use refusal::{Judged, Marker, TableCondition, TableEvent};
+use refusal::{Marker, Refusal, TableCondition, TableEvent};
 
 // The number for an ordinary condition.
-pub fn ordinary_number(table: &[u8], b: TableCondition) -> Judged
+pub fn ordinary_number(table: &[u8], b: TableCondition) -> Result<usize, Refusal>
     ensures { result ≡ ordinary_number table.now b.0 }
 {
     let mut markers = [0u32; 256];
     let mut users = [0u32; 256];
     let mut bases = [0u32; 257];
-    let r = layout::lay_out(table, &mut markers, &mut users, &mut bases);
-    let Judged::Fine(_) = r else {
-        return r;
-    };
+    layout::lay_out(table, &mut markers, &mut users, &mut bases)?;
     let wanted = b.0;
     if records::conditions(table) <= wanted {
         return refusal::refused(10, 0);
@@ -24,20 +21,17 @@ pub fn ordinary_number(table: &[u8], b: TableCondition) -> Judged
     if colours::is_persistent(table, wanted as usize) {
         return refusal::refused(10, 0);
     }
-    Judged::Fine(tally::number(&bases, wanted as usize) as usize)
+    Ok(tally::number(&bases, wanted as usize) as usize)
 }
 
 // The number for a persistent condition with a marker and a user.
-pub fn copy_number(table: &[u8], b: TableCondition, marker: Marker, user: TableEvent) -> Judged
+pub fn copy_number(table: &[u8], b: TableCondition, marker: Marker, user: TableEvent) -> Result<usize, Refusal>
     ensures { result ≡ copy_number table.now b.0 marker user.0 }
 {
     let mut markers = [0u32; 256];
     let mut users = [0u32; 256];
     let mut bases = [0u32; 257];
-    let r = layout::lay_out(table, &mut markers, &mut users, &mut bases);
-    let Judged::Fine(events) = r else {
-        return r;
-    };
+    let events = layout::lay_out(table, &mut markers, &mut users, &mut bases)?;
     let wanted = b.0 as usize;
     if colours::is_persistent(table, wanted) {
         let m = unfolding::marker_place(table, events, wanted, marker);
@@ -50,7 +44,7 @@ pub fn copy_number(table: &[u8], b: TableCondition, marker: Marker, user: TableE
         if width <= u {
             return refusal::refused(10, 0);
         }
-        return Judged::Fine(tally::number(&bases, wanted) as usize + (m * width + u));
+        return Ok(tally::number(&bases, wanted) as usize + (m * width + u));
     }
     refusal::refused(10, 0)
 }

@@ -19,8 +19,8 @@ use Rattle.model.specs.Numbering.{width, condition_count}
 use Rattle.model.proofs.Counts.{count_conditions, ordinary_from, copy_from}
 use Rattle.refusal.specs.declared.Refusal.{Refusal}
 use Rattle.refusal.specs.declared.Marker as declared
-use Rattle.refusal.specs.declared.Judged.{Judged}
-use Rattle.refusal.specs.declared.Judged.TheVariants.{Fine, Refused}
+use Rattle.refusal.specs.Answer.{Judged}
+use Rattle.std.specs.Prelude.{Ok, Err}
 use Rattle.refusal.specs.Answer.{refused_at, need}
 use Rattle.refusal.proofs.Chain.{need_passes, need_refuses}
 use Rattle.table.specs.Decoded.{net_of}
@@ -50,7 +50,7 @@ next_sum f b i h = rw add-one h
 -- ---- what is told
 
 module _ (s : List ℕ) (i : ℕ) where
-  pub told_refused : {r : Judged} {x : Refusal} → r ≡ condition_judged s i → r ≡ Refused x → told_if r (ordinary 0) ≡ condition_origin_of s i
+  pub told_refused : {r : Judged} {x : Refusal} → r ≡ condition_judged s i → r ≡ Err x → told_if r (ordinary 0) ≡ condition_origin_of s i
   unfolding condition_origin_of
   told_refused e t = ap (λ (a : Judged). told_if a (ordinary 0)) t ∙ sym (ap (λ (a : Judged). told_if a (condition_at (net_of s) i)) (sym e ∙ t))
 
@@ -58,14 +58,14 @@ module _ (s : List ℕ) (i : ℕ) where
     pub told_past : condition_count (net_of s) ≤ i → (r : Judged) → r ≡ refused_at 10 0 → told_if r (ordinary 0) ≡ condition_origin_of s i
     unfolding condition_judged basic
     told_past h r q =
-        told_refused (q ∙ sym (u _ ∙ need_refuses 10 0 (Fine i) (le-ltb i (length (unfolded_conditions (net_of s))) (omega (arith, count_conditions (net_of s)))))) q
+        told_refused (q ∙ sym (u _ ∙ need_refuses 10 0 (Ok i) (le-ltb i (length (unfolded_conditions (net_of s))) (omega (arith, count_conditions (net_of s)))))) q
 
     -- what stands at the number
     told_at : (p : UnfoldedCondition) → get_elem? (unfolded_conditions (net_of s)) i ≡ some p → told p ≡ condition_origin_of s i
     unfolding condition_origin_of condition_judged condition_at basic
     told_at p h =
         let low = lt-ltb i (length (unfolded_conditions (net_of s))) (at_lt (unfolded_conditions (net_of s)) i h) in
-        let q : condition_judged s i ≡ Fine i = u _ ∙ need_passes 10 0 low in
+        let q : condition_judged s i ≡ Ok i = u _ ∙ need_passes 10 0 low in
         sym (ap (λ (a : Judged). told_if a (condition_at (net_of s) i)) q ∙ ap told (at_get_d (unfolded_conditions (net_of s)) i (ordinary 0) h))
 
     module _ (b : ℕ) (h : b < (net_of s).conditions) (low : sum (width (net_of s)) b ≤ i) (high : i < sum (width (net_of s)) b + width (net_of s) b) where
@@ -105,22 +105,22 @@ module _ (s : List ℕ) (i : ℕ) where
 
 -- ---- the same once the table is laid out
 
-pub laid_refused : (s : List ℕ) (i : ℕ) {r : Judged} {x : Refusal} → r ≡ unfolding_of s (Fine (net_of s).events) → r ≡ Refused x → told_if r (ordinary 0) ≡ condition_origin_of s i
+pub laid_refused : (s : List ℕ) (i : ℕ) {r : Judged} {x : Refusal} → r ≡ unfolding_of s (Ok (net_of s).events) → r ≡ Err x → told_if r (ordinary 0) ≡ condition_origin_of s i
 unfolding condition_judged
-laid_refused s i e t = told_refused s i (unfolds_passed s (need (ltb i (basic (net_of s)).conditions) 10 0 (Fine i)) (net_of s).events e t) t
+laid_refused s i e t = told_refused s i (unfolds_passed s (need (ltb i (basic (net_of s)).conditions) 10 0 (Ok i)) (net_of s).events e t) t
 
-module _ (s ms us bases : List ℕ) (l : Laid s ms us bases) {r : Judged} (e : r ≡ unfolding_of s (Fine (net_of s).events)) {k : ℕ} (t : r ≡ Fine k) (w : ℕ) (q : w ≡ conditions s) where
+module _ (s ms us bases : List ℕ) (l : Laid s ms us bases) {r : Judged} (e : r ≡ unfolding_of s (Ok (net_of s).events)) {k : ℕ} (t : r ≡ Ok k) (w : ℕ) (q : w ≡ conditions s) where
   on : (own : Judged) → unfolding_of s own ≡ own
   on own = (unfolds_on s own (net_of s).events e t).0
 
   pub events_is : k ≡ (net_of s).events
-  events_is = (unfolds_on s (Fine 0) (net_of s).events e t).1
+  events_is = (unfolds_on s (Ok 0) (net_of s).events e t).1
 
   pub few_events : k ≤ 256
   few_events = omega (arith, events_is, l.counted.marked.limits.few_events)
 
   conditions_is_lem : w ≡ (net_of s).conditions
-  conditions_is_lem = let j = unfolds_judged s (Fine 0) (net_of s).events e t in q ∙ conditions_are_all s j.0 j.1
+  conditions_is_lem = let j = unfolds_judged s (Ok 0) (net_of s).events e t in q ∙ conditions_are_all s j.0 j.1
 
   pub few_conditions : w ≤ 256
   few_conditions = omega (arith, conditions_is_lem, l.counted.marked.limits.few_conditions)

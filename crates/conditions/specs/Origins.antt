@@ -3,8 +3,8 @@ use Rattle.std.specs.Prelude.{ℕ, List, ltb, get_or}
 use Rattle.std.proofs.Math.Option.{Option, none, some}
 use Rattle.model.specs.Net.{Net}
 use Rattle.model.specs.Unfolding.{UnfoldedCondition, ordinary, copy, unfolded_conditions, basic}
-use Rattle.refusal.specs.declared.Judged.{Judged}
-use Rattle.refusal.specs.declared.Judged.TheVariants as judged
+use Rattle.refusal.specs.Answer.{Judged}
+use Rattle.std.specs.Prelude.{Ok, Err}
 use Rattle.refusal.specs.Answer.{need}
 use Rattle.table.specs.Decoded.{net_of}
 use Rattle.layout.specs.Unfolds.{unfolding_of}
@@ -19,7 +19,7 @@ condition_at n i = get_or (unfolded_conditions n) i (ordinary 0)
 
 -- Whether a number is that of an unfolded condition, 10 past the last (01, Runs across).
 unfoldable pub condition_judged : List ℕ → ℕ → Judged
-condition_judged s i = unfolding_of s (need (ltb i (basic (net_of s)).conditions) 10 0 (judged.Fine i))
+condition_judged s i = unfolding_of s (need (ltb i (basic (net_of s)).conditions) 10 0 (Ok i))
 
 -- An unfolded condition as an answer tells it (01, Unfolding).
 abbrev pub told : UnfoldedCondition → ConditionOrigin
@@ -28,8 +28,8 @@ told (copy b m u) = show.Copy (record { 0 = b }) (shown m) (record { 0 = u })
 
 -- With a fine answer what is told, else the refusal.
 abbrev pub told_if : Judged → UnfoldedCondition → ConditionOrigin
-told_if (judged.Fine k) p = told p
-told_if (judged.Refused refusal) p = show.Refused refusal
+told_if (Ok k) p = told p
+told_if (Err refusal) p = show.Refused refusal
 
 -- The condition, with marker and user where it is persistent, behind a number (01, Runs across).
 unfoldable pub condition_origin_of : List ℕ → ℕ → ConditionOrigin

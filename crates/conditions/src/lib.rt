@@ -9,7 +9,7 @@ ghost use Rattle.layout.specs.Laid.{Sums};
 ghost use Rattle.conditions.specs.Origins.{told_if, condition_origin_of};
 ghost use Rattle.conditions.specs.Owners.{Owns};
 
-use refusal::{Judged, Marker, Refusal, TableCondition, TableEvent, UnfoldedCondition};
+use refusal::{Marker, Refusal, TableCondition, TableEvent, UnfoldedCondition};
 
 // What stands behind an unfolded condition's number: an ordinary condition, or a persistent one with its marker and user.
 #[derive(Clone, Copy)]
@@ -36,12 +36,12 @@ pub fn owner<'a>(table: &'a [u8], bases: &'a [u32], count: usize, i: u32) -> usi
 }
 
 // A refused asking as an answer on what stands behind a number.
-fn no_origin(r: Judged) -> ConditionOrigin
+fn no_origin(r: Result<usize, Refusal>) -> ConditionOrigin
     ensures { result ≡ told_if r (ordinary 0) }
 {
     match r {
-        Judged::Fine(_) => ConditionOrigin::Ordinary(TableCondition(0)),
-        Judged::Refused(refusal) => ConditionOrigin::Refused(refusal),
+        Ok(_) => ConditionOrigin::Ordinary(TableCondition(0)),
+        Err(refusal) => ConditionOrigin::Refused(refusal),
     }
 }
 
@@ -53,7 +53,7 @@ pub fn condition_origin(table: &[u8], i: UnfoldedCondition) -> ConditionOrigin
     let mut users = [0u32; 256];
     let mut bases = [0u32; 257];
     let r = layout::lay_out(table, &mut markers, &mut users, &mut bases);
-    let Judged::Fine(events) = r else {
+    let Ok(events) = r else {
         return no_origin(r);
     };
     let wanted = i.0 as u32;

@@ -20,8 +20,8 @@ use Rattle.model.specs.Unfolding.{same_marker, UnfoldedCondition, ordinary, copy
 use Rattle.model.specs.Numbering.{width, condition_count}
 use Rattle.model.proofs.Unfolded.{start_marks, event_marks}
 use Rattle.model.proofs.Counts.{marker_at_lem, count_conditions, ordinary_from}
-use Rattle.refusal.specs.declared.Judged.{Judged}
-use Rattle.refusal.specs.declared.Judged.TheVariants.{Fine, Refused}
+use Rattle.refusal.specs.Answer.{Judged}
+use Rattle.std.specs.Prelude.{Ok, Err}
 use Rattle.words.specs.Words.{words}
 use Rattle.records.specs.Records.{conditions}
 use Rattle.table.specs.Walk.{judge_of, offset_of}
@@ -93,11 +93,11 @@ lower d b t f = T_of (ltb d b) (lt-ltb d b (let z = ltb→lt d (b + 1) t in omeg
 
 -- ---- a table that has conditions was accepted
 
-judged_if : (s : List ℕ) (j : Judged) → 1 ≤ (net_if j s).conditions → j ≡ Fine (net_if j s).events
-judged_if s (Fine k) h = refl
-judged_if s (Refused refusal) h = absurd (omega arith)
+judged_if : (s : List ℕ) (j : Judged) → 1 ≤ (net_if j s).conditions → j ≡ Ok (net_if j s).events
+judged_if s (Ok k) h = refl
+judged_if s (Err refusal) h = absurd (omega arith)
 
-pub judged : (s : List ℕ) → 1 ≤ (net_of s).conditions → judge_of s ≡ Fine (net_of s).events
+pub judged : (s : List ℕ) → 1 ≤ (net_of s).conditions → judge_of s ≡ Ok (net_of s).events
 unfolding net_of
 judged s h = judged_if s (judge_of s) h
 

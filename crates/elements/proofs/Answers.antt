@@ -15,8 +15,8 @@ use Rattle.model.specs.Unfolding.{basic}
 use Rattle.model.specs.Numbering.{size}
 use Rattle.model.proofs.Lent.{length_bytes, bytes_at}
 use Rattle.refusal.specs.declared.Refusal.{Refusal}
-use Rattle.refusal.specs.declared.Judged.{Judged}
-use Rattle.refusal.specs.declared.Judged.TheVariants.{Fine, Refused}
+use Rattle.refusal.specs.Answer.{Judged}
+use Rattle.std.specs.Prelude.{Ok, Err}
 use Rattle.refusal.specs.Answer.{refused_at, value_of, need, fitting, written}
 use Rattle.refusal.proofs.Chain.{never_both, need_passes, need_refuses, fitting_room}
 use Rattle.records.specs.Records.{conditions}
@@ -45,20 +45,20 @@ use Rattle.elements.proofs.Reading.{elements_all, text_is}
 
 -- ---- a table laid out
 
-module _ (s ms us bs : List ℕ) {r : Judged} (l : LaidOut s r ms us bs) (k : ℕ) (e : r ≡ Fine k) where
+module _ (s ms us bs : List ℕ) {r : Judged} (l : LaidOut s r ms us bs) (k : ℕ) (e : r ≡ Ok k) where
   pub laid_unfolds : Unfolds s ms us bs k
   laid_unfolds =
       record {
         laid = l.laid k e;
         unfolds = λ own. (unfolds_on s own (net_of s).events l.answer e).0;
-        all = (unfolds_on s (Fine 0) (net_of s).events l.answer e).1;
+        all = (unfolds_on s (Ok 0) (net_of s).events l.answer e).1;
       }
 
 -- ---- how many elements there are
 
 module _ (s ms us bs : List ℕ) (events : ℕ) (u : Unfolds s ms us bs events) where
   pub conditions_told : (c : ℕ) → c ≡ get_or bs (conditions s) 0 → c ≡ (basic (net_of s)).conditions
-  conditions_told c q = let f = unfolds_fine s (u.unfolds (Fine 0)) in q ∙ conditions_count s ms us bs f.0 u.laid f.1
+  conditions_told c q = let f = unfolds_fine s (u.unfolds (Ok 0)) in q ∙ conditions_count s ms us bs f.0 u.laid f.1
 
   module _ (c m a : ℕ) (p : c ≡ get_or bs (conditions s) 0) (q : m ≡ sum (size (net_of s)) events) (r : a ≡ arc_count (net_of s)) where
     pub counted_all : 2 + 2 * c + m + a ≡ length (elements_of s)
@@ -95,11 +95,11 @@ module _ (s start : List ℕ) (u : (own : Judged) → unfolding_of s own ≡ own
 
 -- ---- a table opened
 
-pub opened_refused : (s ms us bs start : List ℕ) {answer : Judged} {x : Refusal} → LaidOut s answer ms us bs → answer ≡ Refused x → (o : Opened) → o.answer ≡ answer → Opens s o ms us bs start
+pub opened_refused : (s ms us bs start : List ℕ) {answer : Judged} {x : Refusal} → LaidOut s answer ms us bs → answer ≡ Err x → (o : Opened) → o.answer ≡ answer → Opens s o ms us bs start
 opened_refused s ms us bs start l e o z =
     record { told = z ∙ l.answer; ready = λ k q. never_both (sym q ∙ z ∙ e) }
 
-module _ (s ms us bs start after : List ℕ) {answer : Judged} (l : LaidOut s answer ms us bs) (k : ℕ) (e : answer ≡ Fine k) where
+module _ (s ms us bs start after : List ℕ) {answer : Judged} (l : LaidOut s answer ms us bs) (k : ℕ) (e : answer ≡ Ok k) where
   pub opened_ready : length start ≡ most_unfolded → (c m : ℕ) → c ≡ get_or bs (conditions s) 0 → m ≡ sum (size (net_of s)) k → after ≡ unfolded_started_of s start → Ready s k c m ms us bs after
   opened_ready long c m p q z =
       let u = laid_unfolds s ms us bs l k e in
@@ -112,7 +112,7 @@ module _ (s ms us bs start after : List ℕ) {answer : Judged} (l : LaidOut s an
       }
 
   pub opened_fine : length start ≡ most_unfolded → (c m : ℕ) → c ≡ get_or bs (conditions s) 0 → m ≡ sum (size (net_of s)) k → after ≡ unfolded_started_of s start
-      → Opens s (record { answer = Fine k; events = k; conditions = c; transitions = m }) ms us bs after
+      → Opens s (record { answer = Ok k; events = k; conditions = c; transitions = m }) ms us bs after
   opened_fine long c m p q z =
       record {
         told = sym e ∙ l.answer;
@@ -148,20 +148,20 @@ module _ (s ms us bs start : List ℕ) {events c m : ℕ} (h : Ready s events c 
 -- ---- the calls
 
 module _ (s : List ℕ) where
-  pub count_refused : {r : Judged} {x : Refusal} → r ≡ unfolding_of s (Fine (net_of s).events) → r ≡ Refused x → r ≡ element_count_of s
+  pub count_refused : {r : Judged} {x : Refusal} → r ≡ unfolding_of s (Ok (net_of s).events) → r ≡ Err x → r ≡ element_count_of s
   unfolding element_count_of
-  count_refused e t = unfolds_passed s (Fine (length (elements_of s))) (net_of s).events e t
+  count_refused e t = unfolds_passed s (Ok (length (elements_of s))) (net_of s).events e t
 
-  pub count_fine : ((own : Judged) → unfolding_of s own ≡ own) → (k : ℕ) → k ≡ length (elements_of s) → Fine k ≡ element_count_of s
+  pub count_fine : ((own : Judged) → unfolding_of s own ≡ own) → (k : ℕ) → k ≡ length (elements_of s) → Ok k ≡ element_count_of s
   unfolding element_count_of
-  count_fine u k e = ap Fine e ∙ sym (u (Fine (length (elements_of s))))
+  count_fine u k e = ap Ok e ∙ sym (u (Ok (length (elements_of s))))
 
   module _ (i : ℕ) (out : List ℕ) where
-    pub element_refused : {r : Judged} {x : Refusal} → r ≡ unfolding_of s (Fine (net_of s).events) → r ≡ Refused x → r ≡ element_of s i (length out)
+    pub element_refused : {r : Judged} {x : Refusal} → r ≡ unfolding_of s (Ok (net_of s).events) → r ≡ Err x → r ≡ element_of s i (length out)
     unfolding element_of
     element_refused e t = unfolds_passed s (need (ltb i (length (elements_of s))) 10 0 (fitting (length (element_text s i)) (length out))) (net_of s).events e t
 
-    pub element_kept : {r : Judged} {x : Refusal} → r ≡ element_of s i (length out) → r ≡ Refused x → out ≡ element_written_of s i out
+    pub element_kept : {r : Judged} {x : Refusal} → r ≡ element_of s i (length out) → r ≡ Err x → out ≡ element_written_of s i out
     unfolding element_written_of
     element_kept e t = sym (ap (λ (a : Judged). written a (element_text s i) out) (sym e ∙ t))
 

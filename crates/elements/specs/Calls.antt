@@ -1,8 +1,8 @@
 -- What the calls of the export answer, and what they leave in a lent output.
 use Rattle.std.specs.Prelude.{ℕ, List, ltb, length, get_or}
 use Rattle.model.specs.Unfolding.{basic}
-use Rattle.refusal.specs.declared.Judged.{Judged}
-use Rattle.refusal.specs.declared.Judged.TheVariants.{Fine}
+use Rattle.refusal.specs.Answer.{Judged}
+use Rattle.std.specs.Prelude.{Ok}
 use Rattle.refusal.specs.Answer.{need, fitting, written}
 use Rattle.table.specs.Decoded.{net_of}
 use Rattle.layout.specs.Unfolds.{unfolding_of}
@@ -24,7 +24,7 @@ element_text s i = text_of (basic (net_of s)).conditions (get_or (elements_of s)
 -- How many elements the export of a table has: 1 to 9, 13, 14 (02, No. 1).
 unfoldable pub element_count_of : List ℕ → Judged
 unfolding elements_of
-element_count_of s = unfolding_of s (Fine (length (elements_of s)))
+element_count_of s = unfolding_of s (Ok (length (elements_of s)))
 
 -- Element i, into an output with so much room: 1 to 9, 13, 14, then 10 past the last, then 16; fine: its bytes (02, No. 1).
 unfoldable pub element_of : List ℕ → ℕ → ℕ → Judged

@@ -3,7 +3,7 @@ use Rattle.std.specs.Prelude.{ℕ, ◌≤◌, ◌<◌, ◌≡◌, List, length, 
 use Rattle.model.specs.Net.{begin}
 use Rattle.model.specs.Lent.{bit}
 use Rattle.model.specs.Unfolding.{basic}
-use Rattle.refusal.specs.declared.Judged.TheVariants.{Fine}
+use Rattle.std.specs.Prelude.{Ok}
 use Rattle.table.specs.Decoded.{net_of}
 use Rattle.layout.specs.Unfolds.{unfolding_of}
 use Rattle.export_places.specs.Needs.{Numbered}
@@ -17,5 +17,5 @@ pub record Ready (s : List ℕ) (events conditions transitions : ℕ) (ms us bs 
 
 -- The answer to a table that is opened, and what lent memory holds where it is not refused.
 pub record Opens (s : List ℕ) (o : Opened) (ms us bs start : List ℕ) : Type 0 where
-  pub told : o.answer ≡ unfolding_of s (Fine (net_of s).events)
-  pub ready : (k : ℕ) → o.answer ≡ Fine k → Ready s o.events o.conditions o.transitions ms us bs start
+  pub told : o.answer ≡ unfolding_of s (Ok (net_of s).events)
+  pub ready : (k : ℕ) → o.answer ≡ Ok k → Ready s o.events o.conditions o.transitions ms us bs start

@@ -17,7 +17,7 @@ ghost use Rattle.elements.specs.Needs.{Ready, Opens};
 
 use export_places::Place;
 use pnml::Element;
-use refusal::Judged;
+use refusal::Refusal;
 
 // No export has so many arcs.
 const PAST_ALL: usize = 1099511627776;
@@ -25,7 +25,7 @@ const PAST_ALL: usize = 1099511627776;
 // What a table is opened to: the number of its events or the refusal, then how many unfolded conditions and events.
 #[derive(Clone, Copy)]
 pub struct Opened {
-    pub answer: Judged,
+    pub answer: Result<usize, Refusal>,
     pub events: usize,
     pub conditions: usize,
     pub transitions: usize,
@@ -78,21 +78,18 @@ fn count_elements<'a>(
 }
 
 // How many elements the export of a table has.
-pub fn element_count(table: &[u8]) -> Judged
+pub fn element_count(table: &[u8]) -> Result<usize, Refusal>
     ensures { result ≡ element_count_of table.now }
 {
     let mut markers = [0u32; 256];
     let mut users = [0u32; 256];
     let mut bases = [0u32; 257];
-    let laid = layout::lay_out(table, &mut markers, &mut users, &mut bases);
-    let Judged::Fine(events) = laid else {
-        return laid;
-    };
-    Judged::Fine(count_elements(table, events, &markers, &users, &bases))
+    let events = layout::lay_out(table, &mut markers, &mut users, &mut bases)?;
+    Ok(count_elements(table, events, &markers, &users, &bases))
 }
 
 // A refusal, with nothing opened.
-fn refused(answer: Judged) -> Opened
+fn refused(answer: Result<usize, Refusal>) -> Opened
     ensures { result.answer ≡ answer }
 {
     Opened {
@@ -115,7 +112,7 @@ pub fn open(
     ensures { Opens table.now result markers.new users.new bases.new start.new }
 {
     let answer = layout::lay_out(table, markers, users, bases);
-    let Judged::Fine(events) = answer else {
+    let Ok(events) = answer else {
         return refused(answer);
     };
     let conditions = condition_count(table, &bases[..]);
@@ -141,7 +138,7 @@ fn element_in<'a>(
     start: &'a [u8],
     i: usize,
     out: &mut [u8],
-) -> Judged
+) -> Result<usize, Refusal>
     requires { Ready table.now events conditions transitions markers.now users.now bases.now start.now }
     ensures answer { result ≡ need (ltb i (length (elements_of table.now))) 10 0 (fitting (length (element_text table.now i)) (length out.old)) }
     ensures after { out.new ≡ written result (element_text table.now i) out.old }
@@ -172,7 +169,7 @@ fn element_in<'a>(
 }
 
 // An element of the export of a table by its number, written into a lent output.
-pub fn element(table: &[u8], i: usize, out: &mut [u8]) -> Judged
+pub fn element(table: &[u8], i: usize, out: &mut [u8]) -> Result<usize, Refusal>
     ensures answer { result ≡ element_of table.now i (length out.old) }
     ensures after { out.new ≡ element_written_of table.now i out.old }
 {
@@ -181,10 +178,7 @@ pub fn element(table: &[u8], i: usize, out: &mut [u8]) -> Judged
     let mut bases = [0u32; 257];
     let mut start = [0u8; 65535];
     let opened = open(table, &mut markers, &mut users, &mut bases, &mut start);
-    let answer = opened.answer;
-    let Judged::Fine(_) = answer else {
-        return answer;
-    };
+    opened.answer?;
     element_in(
         table,
         opened.events,

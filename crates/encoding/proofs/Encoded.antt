@@ -19,9 +19,10 @@ use Rattle.model.specs.Unfolding.{reads}
 use Rattle.model.proofs.Lent.{length_bytes, bytes_at, bit_one}
 use Rattle.words.specs.Words.{word_at, words, bytes_of, bits, count_in}
 use Rattle.words.proofs.Laws.{length_bytes_of, words_bytes_of}
-use Rattle.refusal.specs.declared.Judged.{Judged}
-use Rattle.refusal.specs.declared.Judged.TheVariants.{Fine}
+use Rattle.refusal.specs.Answer.{Judged}
+use Rattle.std.specs.Prelude.{Ok}
 use Rattle.refusal.specs.Answer.{and_then}
+use Rattle.std.specs.Prelude.{Option}
 use Rattle.records.specs.declared.Header.{Header}
 use Rattle.records.specs.Records.{part, old_rule, front, conditions, flags, pre_count, post_count, pre_part, post_part, marking_part}
 use Rattle.records.proofs.Headers.{known}
@@ -96,12 +97,12 @@ bits_bytes c m = bits_map m (count 0 c)
 
 -- What is read from an offset on where the records from event e on stand, k of them before the Marking record.
 pub record Written (n : Net) (e k : ℕ) (s : List ℕ) (at left : ℕ) : Type 0 where
-  pub judged : events_from left s at ≡ Fine n.events
+  pub judged : events_from left s at ≡ Ok n.events
   pub pre_is : (j : ℕ) → j < k → words (pre_part s (offset_from j s at)) ≡ n.preconditions (e + j)
   pub post_is : (j : ℕ) → j < k → words (post_part s (offset_from j s at)) ≡ n.postconditions (e + j)
   pub start_is : words (marking_part s (offset_from k s at)) ≡ n.start
 
-kind_of : {h k : Header} (kind : ℕ) {b : Bool} → h ≡ k → kind_is kind k ≡ b → kind_is kind h ≡ b
+kind_of : {h k : Option Header} (kind : ℕ) {b : Bool} → h ≡ k → kind_is kind k ≡ b → kind_is kind h ≡ b
 kind_of kind p q = ap (kind_is kind) p ∙ q
 
 module _ (n : Net) (t : Tabled n) where
@@ -117,7 +118,7 @@ module _ (n : Net) (t : Tabled n) where
 
 module _ (n : Net) (t : Tabled n) (s : List ℕ) (c : conditions s ≡ n.conditions) (f : flags s ≡ bytes n.conditions n.persistent) where
   -- the record of an event is fine
-  event_written : (e at : ℕ) (r : List ℕ) → e < n.events → EventStands n e s at r → event_of s at ≡ Fine (at + 4 + word_at s at)
+  event_written : (e at : ℕ) (r : List ℕ) → e < n.events → EventStands n e s at r → event_of s at ≡ Ok (at + 4 + word_at s at)
   unfolding count_in reads
   event_written e at r h w =
       let pre = n.preconditions e in
@@ -133,7 +134,7 @@ module _ (n : Net) (t : Tabled n) (s : List ℕ) (c : conditions s ≡ n.conditi
       (fits_same (conditions s) n.conditions (words (post_part s at)) (n.postconditions e) c w.post_is (post_fits n t e h))
       (omega (arith, w.pre_count_is, w.post_count_is))
       (count_same (flags s) (bytes n.conditions n.persistent) (words (pre_part s at)) pre 16 f w.pre_is few)
-      ∙ ap (λ (k : ℕ). Fine (at + 4 + k)) (sym w.frame.len_is)
+      ∙ ap (λ (k : ℕ). Ok (at + 4 + k)) (sym w.frame.len_is)
 
   -- the Marking record is fine, and the last
   marking_stands : (e at left : ℕ) → e ≡ n.events → left + e ≡ 256 → drop at s ≡ framed 3 (bytes_of n.start) → Written n e 0 s at left
@@ -148,7 +149,7 @@ module _ (n : Net) (t : Tabled n) (s : List ℕ) (c : conditions s ≡ n.conditi
       let other = kind_of 2 w.header (ne_eqb 3 2 (λ z. absurd (omega arith))) in
       let count : 256 - left ≡ n.events = omega arith in
       record {
-        judged = events_last s at left other ∙ ap (λ (j : Judged). and_then j (λ _. Fine (256 - left))) made ∙ ap Fine count;
+        judged = events_last s at left other ∙ ap (λ (j : Judged). and_then j (λ _. Ok (256 - left))) made ∙ ap Ok count;
         pre_is = λ j h. absurd (omega arith);
         post_is = λ j h. absurd (omega arith);
         start_is = ap (λ (k : ℕ). words (part s (at + 4) k)) w.len_is ∙ read;
@@ -178,7 +179,7 @@ module _ (n : Net) (t : Tabled n) (s : List ℕ) (c : conditions s ≡ n.conditi
 
 -- The rule of a written table, and where its Conditions record stands.
 record Fronts (n : Net) (s : List ℕ) : Type 0 where
-  fine : rule_of s ≡ Fine (front s)
+  fine : rule_of s ≡ Ok (front s)
   rule_is : old_rule s ≡ n.old 0
   after : drop (front s) s ≡ framed 1 (bytes n.conditions n.persistent) ++ records_from n 0 n.events
 
@@ -190,7 +191,7 @@ fronts n s true rule e =
     let six : word_at s 2 ≡ 6 = sym (known s 0 6 1 w.header).kind_is in
     let byte : get_or s 4 0 ≡ 1 = sym (get_or-drop 4 s 0 0) ∙ ap (λ (l : List ℕ). get_or l 0 0) w.body in
     record {
-      fine = rule_made s w.header (omega arith) ∙ ap Fine (front_ruled s six);
+      fine = rule_made s w.header (omega arith) ∙ ap Ok (front_ruled s six);
       rule_is = sym (rule_ruled s six) ∙ eq-eqb (get_or s 4 0) 1 byte ∙ sym rule;
       after = ap (λ (i : ℕ). drop i s) (sym (front_ruled s six) ∙ ap (λ (k : ℕ). 4 + k) (sym w.len_is)) ∙ w.after;
     }
@@ -200,7 +201,7 @@ fronts n s false rule e =
     let one : word_at s 2 ≡ 1 = sym (known s 0 1 (length payload) w.header).kind_is in
     let plain : word_at s 2 ≡ 6 → ⊥ = λ z. absurd (omega arith) in
     record {
-      fine = rule_none s plain ∙ ap Fine (front_plain s plain);
+      fine = rule_none s plain ∙ ap Ok (front_plain s plain);
       rule_is = sym (rule_plain s plain) ∙ sym rule;
       after = ap (λ (i : ℕ). drop i s) (sym (front_plain s plain)) ∙ e;
     }
@@ -210,7 +211,7 @@ record Opens (n : Net) (s : List ℕ) : Type 0 where
   rule : Fronts n s
   conditions_is : conditions s ≡ n.conditions
   flags_is : flags s ≡ bytes n.conditions n.persistent
-  fine : conditions_of s (front s) ≡ Fine (front s + 4 + conditions s)
+  fine : conditions_of s (front s) ≡ Ok (front s + 4 + conditions s)
   after : drop (front s + 4 + conditions s) s ≡ records_from n 0 n.events
 
 opens : (n : Net) → Tabled n → (s : List ℕ) → s ≡ encode n → Opens n s
@@ -225,20 +226,20 @@ opens n t s e =
     let low = t.some_condition in
     let high = t.few_conditions in
     let made = conditions_made s (front s) (length payload) w.header (omega arith) (omega arith) (ap bits whole ∙ bits_bytes n.conditions n.persistent) in
-    record { rule = rule; conditions_is = w.len_is ∙ long; flags_is = p; fine = made ∙ ap (λ (k : ℕ). Fine (front s + 4 + k)) (sym w.len_is); after = rest }
+    record { rule = rule; conditions_is = w.len_is ∙ long; flags_is = p; fine = made ∙ ap (λ (k : ℕ). Ok (front s + 4 + k)) (sym w.len_is); after = rest }
 
 -- the written table as a whole
 table_written : (n : Net) (t : Tabled n) (s : List ℕ) (o : Opens n s) → Written n 0 n.events s (front s + 4 + conditions s) 256
 table_written n t s o = written n t s o.conditions_is o.flags_is n.events 0 (front s + 4 + conditions s) 256 (omega arith) (omega arith) o.after
 
-judged_written : (n : Net) → Tabled n → (s : List ℕ) → Opens n s → judge_of s ≡ Fine n.events
+judged_written : (n : Net) → Tabled n → (s : List ℕ) → Opens n s → judge_of s ≡ Ok n.events
 judged_written n t s o =
     judge_starts s
     ∙ ap (λ (j : Judged). and_then j (λ at. and_then (conditions_of s at) (events_from 256 s))) o.rule.fine
     ∙ ap (λ (j : Judged). and_then j (events_from 256 s)) o.fine ∙ (table_written n t s o).judged
 
 agree_written : (n : Net) → Tabled n → (s : List ℕ) → Opens n s → Written n 0 n.events s (front s + 4 + conditions s) 256
-    → Agree (net_if (Fine n.events) s) n
+    → Agree (net_if (Ok n.events) s) n
 agree_written n t s o w = record {
   conditions_agree = o.conditions_is;
   persistent_agree = λ b h. ap (λ (l : List ℕ). eqb (get_or l b 0) 1) o.flags_is ∙ flag_at n.conditions n.persistent b h;
@@ -250,11 +251,11 @@ agree_written n t s o w = record {
 }
 
 -- The judge accepts the table of a net within the limits, and counts its events.
-pub encoded_judged : (n : Net) → Tabled n → judge_of (encode n) ≡ Fine n.events
+pub encoded_judged : (n : Net) → Tabled n → judge_of (encode n) ≡ Ok n.events
 encoded_judged n t = judged_written n t (encode n) (opens n t (encode n) refl)
 
 -- Read again, it is that net.
 pub encoded_agrees : (n : Net) → Tabled n → Agree (net_of (encode n)) n
 encoded_agrees n t =
     let o = opens n t (encode n) refl in
-    rw (net_judged (encode n) (Fine n.events) (encoded_judged n t)) (agree_written n t (encode n) o (table_written n t (encode n) o))
+    rw (net_judged (encode n) (Ok n.events) (encoded_judged n t)) (agree_written n t (encode n) o (table_written n t (encode n) o))

@@ -7,7 +7,7 @@ use lib.ListN.{length, get_or, take, drop, length-drop, length-append}
 use lib.Seq.{get_or-drop, drop-drop, take_at, drop_at}
 use Rattle.words.specs.Words.{word_at, bytes_of}
 use Rattle.words.proofs.Laws.{two_bytes}
-use Rattle.records.specs.declared.Header.TheVariants.{Whole}
+use Rattle.records.specs.Records.{whole}
 use Rattle.records.specs.Records.{part, header_of}
 use Rattle.records.proofs.Headers.{header_whole}
 use Rattle.encoding.specs.Encoded.{framed}
@@ -38,7 +38,7 @@ part_stands s at k l r e h =
 -- What is read at a framed record.
 pub record Frame (s : List ℕ) (at kind : ℕ) (payload r : List ℕ) : Type 0 where
   pub len_is : word_at s at ≡ length payload
-  pub header : header_of s at ≡ Whole kind (length payload)
+  pub header : header_of s at ≡ whole kind (length payload)
   pub body : drop (at + 4) s ≡ payload ++ r
   pub total : length s ≡ at + 4 + length payload + length r
   pub after : drop (at + 4 + word_at s at) s ≡ r

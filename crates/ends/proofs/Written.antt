@@ -9,8 +9,8 @@ use Rattle.model.specs.Net.{Net, Marking, begin}
 use Rattle.model.specs.Lent.{bytes, marking}
 use Rattle.model.specs.Unfolding.{basic}
 use Rattle.model.proofs.Lent.{length_bytes}
-use Rattle.refusal.specs.declared.Judged.{Judged}
-use Rattle.refusal.specs.declared.Judged.TheVariants.{Fine}
+use Rattle.refusal.specs.Answer.{Judged}
+use Rattle.std.specs.Prelude.{Ok}
 use Rattle.refusal.specs.Answer.{refused_at, fitting, written}
 use Rattle.refusal.proofs.Chain.{fitting_room, fitting_short}
 use Rattle.table.specs.Decoded.{net_of}
@@ -38,7 +38,7 @@ short r count needed copies out e same h = (e ∙ sym (fitting_short count (leng
 
 -- room: what the writer left is what a fine answer leaves
 pub roomy : (n : Net) (m held : Marking) → held ≡ m → (seen : ℕ → Bool) (count : ℕ) (out after : List ℕ) → count ≡ (basic n).conditions → count ≤ length out
-    → after ≡ copies_of n held seen ++ drop (basic n).conditions out → (Fine count ≡ fitting (basic n).conditions (length out)) × (after ≡ copies_of n m seen ++ drop (length (copies_of n m seen)) out)
+    → after ≡ copies_of n held seen ++ drop (basic n).conditions out → (Ok count ≡ fitting (basic n).conditions (length out)) × (after ≡ copies_of n m seen ++ drop (length (copies_of n m seen)) out)
 roomy n m held is seen count out after same h e = (
   sym (fitting_room count (length out) h) ∙ ap (λ (x : ℕ). fitting x (length out)) same,
   e ∙ ap (λ (x : Marking). copies_of n x seen ++ drop (basic n).conditions out) is ∙ ap (λ (k : ℕ). copies_of n m seen ++ drop k out) (sym (copies_length n m seen)),

@@ -1,7 +1,7 @@
 -- What is needed to show an unfolded marking.
 use Rattle.std.specs.Prelude.{◌≡◌, List, ℕ}
 use Rattle.model.specs.Lent.{bytes, marking}
-use Rattle.refusal.specs.declared.Judged.TheVariants.{Fine}
+use Rattle.std.specs.Prelude.{Ok}
 use Rattle.table.specs.Walk.{judge_of}
 use Rattle.layout.specs.Laid.{Laid}
 
@@ -9,5 +9,5 @@ use Rattle.layout.specs.Laid.{Laid}
 pub record Shown (s : List ℕ) (events : ℕ) (users bases state : List ℕ) : Type 0 where
   pub markers : List ℕ
   pub laid : Laid s markers users bases
-  pub judged : judge_of s ≡ Fine events
+  pub judged : judge_of s ≡ Ok events
   pub lent : state ≡ bytes 256 (marking state)

@@ -13,8 +13,8 @@ use Rattle.words.specs.Words.{words}
 use Rattle.model.specs.Runs.{Marker}
 use Rattle.model.specs.Unfolding.{same_marker, markers, reads, basic}
 use Rattle.model.specs.Numbering.{number, ways, size}
-use Rattle.refusal.specs.declared.Judged.{Judged}
-use Rattle.refusal.specs.declared.Judged.TheVariants.{Fine}
+use Rattle.refusal.specs.Answer.{Judged}
+use Rattle.std.specs.Prelude.{Ok}
 use Rattle.refusal.specs.Answer.{refused_at}
 use Rattle.refusal.proofs.Chain.{need_passes, need_refuses}
 use Rattle.table.specs.Walk.{offset_of}
@@ -65,7 +65,7 @@ all_length (ms ∷ mss) (m ∷ c) t = ap suc (all_length mss c (and_right (ltb (
 module _ (s : List ℕ) (e : ℕ) (c : Colour) (u : (own : Judged) → unfolding_of s own ≡ own) where
   refuses : ltb (number (net_of s) (record { event = e; colour = colour_of c })) (basic (net_of s)).events ≡ false → refused_at 10 0 ≡ number_of s e c
   unfolding number_of
-  refuses t = sym (u _ ∙ need_refuses 10 0 (Fine (number (net_of s) (record { event = e; colour = colour_of c }))) t)
+  refuses t = sym (u _ ∙ need_refuses 10 0 (Ok (number (net_of s) (record { event = e; colour = colour_of c }))) t)
 
   pub number_no_event : (net_of s).events ≤ e → refused_at 10 0 ≡ number_of s e c
   number_no_event h = refuses (no_event (net_of s) e (colour_of c) h)
@@ -81,11 +81,11 @@ module _ (s : List ℕ) (e : ℕ) (c : Colour) (u : (own : Judged) → unfolding
     pub number_no_colour : weighed mss (colour_of c) ≡ NoSuch → refused_at 10 0 ≡ number_of s e c
     number_no_colour t = refuses (no_colour_lem (net_of s) e (colour_of c) (rw m at (weighed_untold mss (colour_of c) t)))
 
-    pub number_found : e < (net_of s).events → (k before : ℕ) → weighed mss (colour_of c) ≡ Is k → before ≡ sum (size (net_of s)) e → Fine (before + k) ≡ number_of s e c
+    pub number_found : e < (net_of s).events → (k before : ℕ) → weighed mss (colour_of c) ≡ Is k → before ≡ sum (size (net_of s)) e → Ok (before + k) ≡ number_of s e c
     unfolding number_of
     number_found h k before t b =
         let x = weighed_told mss (colour_of c) k t in
         let all = rw m at x.0 in
         let n : number (net_of s) (record { event = e; colour = colour_of c }) ≡ before + k
         = number_is (net_of s) e (colour_of c) h all ∙ rw (b, x.1, m) in
-        ap Fine (sym n) ∙ sym (u _ ∙ need_passes 10 0 (number_low (net_of s) e (colour_of c) h all))
+        ap Ok (sym n) ∙ sym (u _ ∙ need_passes 10 0 (number_low (net_of s) e (colour_of c) h all))

@@ -2,8 +2,8 @@
 use Rattle.std.specs.Prelude.{ℕ, List, ltb}
 use Rattle.model.specs.Unfolding.{basic}
 use Rattle.model.specs.Numbering.{number}
-use Rattle.refusal.specs.declared.Judged.{Judged}
-use Rattle.refusal.specs.declared.Judged.TheVariants.{Fine}
+use Rattle.refusal.specs.Answer.{Judged}
+use Rattle.std.specs.Prelude.{Ok}
 use Rattle.refusal.specs.Answer.{need}
 use Rattle.table.specs.Decoded.{net_of}
 use Rattle.layout.specs.Unfolds.{unfolding_of}
@@ -14,4 +14,4 @@ use Rattle.events.specs.Colours.{colour_of}
 unfoldable pub number_of : List ℕ → ℕ → Colour → Judged
 number_of s e c =
     let k = number (net_of s) (record { event = e; colour = colour_of c }) in
-    unfolding_of s (need (ltb k (basic (net_of s)).events) 10 0 (Fine k))
+    unfolding_of s (need (ltb k (basic (net_of s)).events) 10 0 (Ok k))

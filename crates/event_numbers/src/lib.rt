@@ -9,7 +9,7 @@ ghost use Rattle.event_numbers.specs.Weights.{weighed, Weighing};
 ghost use Rattle.event_numbers.specs.Answers.{number_of};
 
 use events::Colour;
-use refusal::{Judged, TableEvent};
+use refusal::{Refusal, TableEvent};
 
 // What the markers of a colour come to: the place among the colours of an event, or that they are none of these.
 #[derive(Clone, Copy)]
@@ -59,16 +59,13 @@ fn weigh<'a>(
 }
 
 // The number for an event and markers.
-pub fn event_number(table: &[u8], event: TableEvent, colour: Colour) -> Judged
+pub fn event_number(table: &[u8], event: TableEvent, colour: Colour) -> Result<usize, Refusal>
     ensures { result ≡ number_of table.now event.0 colour }
 {
     let mut markers = [0u32; 256];
     let mut users = [0u32; 256];
     let mut bases = [0u32; 257];
-    let r = layout::lay_out(table, &mut markers, &mut users, &mut bases);
-    let Judged::Fine(events) = r else {
-        return r;
-    };
+    let events = layout::lay_out(table, &mut markers, &mut users, &mut bases)?;
     let e = event.0;
     if events <= (e as usize) {
         return refusal::refused(10, 0);
@@ -81,5 +78,5 @@ pub fn event_number(table: &[u8], event: TableEvent, colour: Colour) -> Judged
     let Weighed::Is(place) = w else {
         return refusal::refused(10, 0);
     };
-    Judged::Fine(unfolding::colours_before(table, events, &markers, e as usize) + place)
+    Ok(unfolding::colours_before(table, events, &markers, e as usize) + place)
 }

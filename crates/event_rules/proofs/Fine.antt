@@ -8,7 +8,7 @@ use lib.ListN.{length}
 use borrow.Author.Tests.{leb-true, eqb-true}
 use Rattle.lists.specs.Lists.{fits}
 use Rattle.words.specs.Words.{word_at, words, count_in}
-use Rattle.refusal.specs.declared.Judged.TheVariants.{Fine}
+use Rattle.std.specs.Prelude.{Ok}
 use Rattle.refusal.proofs.Chain.{need_fine}
 use Rattle.records.specs.Records.{header_of, conditions, flags, pre_count, post_count, pre_part, post_part}
 use Rattle.records.proofs.Headers.{known, whole_fine}
@@ -23,7 +23,7 @@ pub record EventFine (s : List ℕ) (at next : ℕ) : Type 0 where
   pub touches : 1 ≤ pre_count s at + post_count s at
   pub few : count_in (flags s) (words (pre_part s at)) ≤ 16
 
-pub event_fine : (s : List ℕ) (at next : ℕ) → event_of s at ≡ Fine next → EventFine s at next
+pub event_fine : (s : List ℕ) (at next : ℕ) → event_of s at ≡ Ok next → EventFine s at next
 unfolding event_of lists_of
 event_fine s at next e =
     let (kind, len, w, e0) = whole_fine (header_of s at) at _ next e in

@@ -1,8 +1,8 @@
 -- What an Event record must be: its header, its length and its lists, with the number and place of each refusal.
 use Rattle.std.specs.Prelude.{ℕ, ◌+◌, ◌*◌, List, leb, eqb}
 use Rattle.lists.specs.Lists.{fits}
-use Rattle.refusal.specs.declared.Judged.{Judged}
-use Rattle.refusal.specs.declared.Judged.TheVariants.{Fine}
+use Rattle.refusal.specs.Answer.{Judged}
+use Rattle.std.specs.Prelude.{Ok}
 use Rattle.refusal.specs.Answer.{need}
 use Rattle.words.specs.Words.{words, count_in}
 use Rattle.records.specs.Records.{header_of, when_whole, conditions, flags, pre_count, post_count, pre_part, post_part}
@@ -14,7 +14,7 @@ lists_of s at next =
     (need (fits (conditions s) (words (post_part s at))) 5 at
     (need (leb 1 (pre_count s at + post_count s at)) 7 at
     (need (leb (count_in (flags s) (words (pre_part s at))) 16) 8 at
-    (Fine next))))
+    (Ok next))))
 
 -- The Event record at an offset: 1, 2, 3, then its lists, its length in whole numbers; fine: the offset after it (01, Refusal numbers).
 unfoldable pub event_of : List ℕ → ℕ → Judged

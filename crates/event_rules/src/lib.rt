@@ -5,10 +5,10 @@ ghost use Rattle.std.specs.Prelude.{◌≡◌, ◌+◌, ◌≤◌, length};
 ghost use Rattle.event_rules.specs.EventRules.{lists_of, event_of};
 
 use records::Header;
-use refusal::Judged;
+use refusal::Refusal;
 
 // The lists of the Event record at an offset, each walked once unless there are preconditions enough to count; fine: next.
-fn event_lists(s: &[u8], at: usize, next: usize) -> Judged
+fn event_lists(s: &[u8], at: usize, next: usize) -> Result<usize, Refusal>
     requires { at + 8 ≤ length s.now }
     ensures { result ≡ lists_of s.now at next }
 {
@@ -26,21 +26,20 @@ fn event_lists(s: &[u8], at: usize, next: usize) -> Judged
         return refusal::refused(7, at);
     }
     if a <= 16 {
-        return Judged::Fine(next);
+        return Ok(next);
     }
     let held = words::count_in(records::flags(s), pre);
     if 16 < held {
         return refusal::refused(8, at);
     }
-    Judged::Fine(next)
+    Ok(next)
 }
 
 // The Event record at an offset; fine: the offset after it.
-pub fn event_record(s: &[u8], at: usize) -> Judged
+pub fn event_record(s: &[u8], at: usize) -> Result<usize, Refusal>
     ensures { result ≡ event_of s.now at }
 {
-    let h = records::header_at(s, at);
-    let Header::Whole { kind, len } = h else {
+    let Some(Header { kind, len }) = records::header_at(s, at) else {
         return refusal::refused(1, at);
     };
     if kind != 2 {

@@ -13,8 +13,8 @@ use Rattle.words.specs.Words.{words}
 use Rattle.model.specs.Runs.{Marker}
 use Rattle.model.specs.Unfolding.{UnfoldedEvent, markers, reads, origin, basic}
 use Rattle.model.specs.Numbering.{ways, digits, size, event_count}
-use Rattle.refusal.specs.declared.Judged.{Judged}
-use Rattle.refusal.specs.declared.Judged.TheVariants.{Fine, Refused}
+use Rattle.refusal.specs.Answer.{Judged}
+use Rattle.std.specs.Prelude.{Ok, Err}
 use Rattle.refusal.specs.Answer.{refused_at}
 use Rattle.refusal.proofs.Chain.{need_passes, need_refuses}
 use Rattle.table.specs.Walk.{offset_of}
@@ -69,7 +69,7 @@ module _ (s ms : List ℕ) (events : ℕ) (w : Within s ms events) (e at : ℕ) 
 -- ---- the event and markers behind a number
 
 module _ (s : List ℕ) (j : ℕ) where
-  pub origin_refused : {r : Judged} → r ≡ origin_judged s j → {x : Rattle.refusal.specs.declared.Refusal.Refusal} → r ≡ Refused x → no_origin r ≡ origin_of s j
+  pub origin_refused : {r : Judged} → r ≡ origin_judged s j → {x : Rattle.refusal.specs.declared.Refusal.Refusal} → r ≡ Err x → no_origin r ≡ origin_of s j
   unfolding origin_of
   origin_refused e t = ap no_origin t ∙ sym (ap (λ (a : Judged). origin_if a (origin (net_of s) j)) (sym e ∙ t))
 
@@ -78,21 +78,21 @@ module _ (s : List ℕ) (j : ℕ) where
     unfolding origin_of origin_judged
     origin_past h =
         let t : origin_judged s j ≡ refused_at 10 0
-        = u _ ∙ need_refuses 10 0 (Fine (length (origin (net_of s) j).colour)) (le-ltb j (basic (net_of s)).events (omega (arith, events_basic (net_of s)))) in
+        = u _ ∙ need_refuses 10 0 (Ok (length (origin (net_of s) j).colour)) (le-ltb j (basic (net_of s)).events (omega (arith, events_basic (net_of s)))) in
         sym (ap (λ (a : Judged). origin_if a (origin (net_of s) j)) t)
 
     pub origin_found : (e rest : ℕ) → e < (net_of s).events → rest < size (net_of s) e → sum (size (net_of s)) e + rest ≡ j → (mss : List (List Marker)) → mss ≡ choices_at (net_of s) e
-        → (c : Colour) → c ≡ push_all no_colour (digits mss rest) → record { answer = Fine c.count; event = record { 0 = e }; colour = c } ≡ origin_of s j
+        → (c : Colour) → c ≡ push_all no_colour (digits mss rest) → record { answer = Ok c.count; event = record { 0 = e }; colour = c } ≡ origin_of s j
     unfolding origin_of origin_judged
     origin_found e rest h l z mss m c q =
         let x : UnfoldedEvent = record { event = e; colour = digits (choices_at (net_of s) e) rest } in
         let o : origin (net_of s) j ≡ x = ap (λ (k : ℕ). origin (net_of s) k) (sym z) ∙ origin_is (net_of s) e rest h l in
         let low : ltb j (basic (net_of s)).events ≡ true = ap (λ (k : ℕ). ltb k (basic (net_of s)).events) (sym z) ∙ origin_low (net_of s) e rest h l in
-        let t : origin_judged s j ≡ Fine (length (origin (net_of s) j).colour) = u _ ∙ need_passes 10 0 low in
+        let t : origin_judged s j ≡ Ok (length (origin (net_of s) j).colour) = u _ ∙ need_passes 10 0 low in
         let d : c ≡ push_all no_colour x.colour = q ∙ ap (λ (k : List (List Marker)). push_all no_colour (digits k rest)) m in
         let k : c.count ≡ length x.colour = ap (λ (y : Colour). y.count) d ∙ count_all no_colour x.colour ∙ omega arith in
-        made (length x.colour) x.colour k d ∙ sym (ap (λ (a : Judged). origin_if a (origin (net_of s) j)) t ∙ ap (λ (y : UnfoldedEvent). origin_if (Fine (length y.colour)) y) o)
+        made (length x.colour) x.colour k d ∙ sym (ap (λ (a : Judged). origin_if a (origin (net_of s) j)) t ∙ ap (λ (y : UnfoldedEvent). origin_if (Ok (length y.colour)) y) o)
       where
         made : (i : ℕ) (y : List Marker) → c.count ≡ i → c ≡ push_all no_colour y
-            → ◌≡◌ {A = EventOrigin} (record { answer = Fine c.count; event = record { 0 = e }; colour = c }) (record { answer = Fine i; event = record { 0 = e }; colour = push_all no_colour y })
+            → ◌≡◌ {A = EventOrigin} (record { answer = Ok c.count; event = record { 0 = e }; colour = c }) (record { answer = Ok i; event = record { 0 = e }; colour = push_all no_colour y })
         made i y a b = cc

@@ -10,7 +10,7 @@ ghost use Rattle.events.specs.Colours.{no_colour, push, push_all};
 ghost use Rattle.events.specs.Numbers.{Picking, Room, told_by};
 ghost use Rattle.events.specs.Answers.{no_origin, origin_of};
 
-use refusal::{Judged, Marker, TableEvent, UnfoldedEvent};
+use refusal::{Marker, Refusal, TableEvent, UnfoldedEvent};
 use unfolding::Found;
 
 // One marker of a colour.
@@ -27,7 +27,7 @@ pub struct Colour {
 // The event and the markers behind an unfolded event's number, with the answer that says how many markers, or the refusal.
 #[derive(Clone, Copy)]
 pub struct EventOrigin {
-    pub answer: Judged,
+    pub answer: Result<usize, Refusal>,
     pub event: TableEvent,
     pub colour: Colour,
 }
@@ -133,7 +133,7 @@ fn colour_at<'a>(
 }
 
 // No event and no markers behind a number, with why.
-fn no_origin(answer: Judged) -> EventOrigin
+fn no_origin(answer: Result<usize, Refusal>) -> EventOrigin
     ensures { result ≡ no_origin answer }
 {
     EventOrigin {
@@ -151,7 +151,7 @@ pub fn event_origin(table: &[u8], j: UnfoldedEvent) -> EventOrigin
     let mut users = [0u32; 256];
     let mut bases = [0u32; 257];
     let r = layout::lay_out(table, &mut markers, &mut users, &mut bases);
-    let Judged::Fine(events) = r else {
+    let Ok(events) = r else {
         return no_origin(r);
     };
     let wanted = j.0 as u32;
@@ -168,7 +168,7 @@ pub fn event_origin(table: &[u8], j: UnfoldedEvent) -> EventOrigin
         rest,
     );
     EventOrigin {
-        answer: Judged::Fine(colour.count),
+        answer: Ok(colour.count),
         event: TableEvent(e as u16),
         colour,
     }

@@ -17,8 +17,8 @@ use Rattle.model.specs.Across.{of_table, Refusal, Answer, run, unless, stuck, mo
 use Rattle.model.proofs.Firing.{runs_first, runs_rest, runs_cons, runs_event}
 use Rattle.model.proofs.Answers.{not_stuck, stuck_none, short_length, length_short}
 use Rattle.refusal.specs.declared.Refusal as table
-use Rattle.refusal.specs.declared.Judged.{Judged}
-use Rattle.refusal.specs.declared.Judged.TheVariants.{Fine, Refused}
+use Rattle.refusal.specs.Answer.{Judged}
+use Rattle.std.specs.Prelude.{Ok, Err}
 use Rattle.refusal.specs.Answer.{refused_at}
 use Rattle.table.specs.Walk.{judge_of}
 use Rattle.table.specs.Decoded.{net_of}
@@ -45,7 +45,7 @@ module _ (n : Net) where
 
 module _ (s : List ℕ) (n : ℕ) (offsets r : List ℕ) (k : ℕ) (x : Exchangeable s n offsets r k) where
   pub step_below : (i : ℕ) → i < length r → get_or r i 0 < n
-  step_below i h = rw (net_judged s (Fine n) x.judged) at (runs_event (net_of s) (begin (net_of s)) r i x.plays h)
+  step_below i h = rw (net_judged s (Ok n) x.judged) at (runs_event (net_of s) (begin (net_of s)) r i x.plays h)
 
   pub step_found : (i : ℕ) → i < length r → Found s (get_or r i 0) (get_or offsets (get_or r i 0) 0)
   step_found i h = record { events = n; judged = x.judged; below = step_below i h; place = x.indexed.each (get_or r i 0) (step_below i h) }
@@ -106,11 +106,11 @@ swapping_unless (some x) a = refl
 
 module _ (s r : List ℕ) (k : ℕ) where
   -- a refusal leaves the run as it was
-  pub kept_run : (a : Judged) (x : table.Refusal) → a ≡ Refused x → a ≡ exchange_of s r k → (a ≡ exchange_of s r k) × (r ≡ exchanged_of s r k)
+  pub kept_run : (a : Judged) (x : table.Refusal) → a ≡ Err x → a ≡ exchange_of s r k → (a ≡ exchange_of s r k) × (r ≡ exchanged_of s r k)
   unfolding exchanged_of
   kept_run a x e h = (h, sym (ap (λ (y : Judged). leaves y (exchanged k r) r) (sym h ∙ e)))
 
-  module _ (n : ℕ) (j : judge_of s ≡ Fine n) where
+  module _ (n : ℕ) (j : judge_of s ≡ Ok n) where
     abbrev rest : Judged
     rest = swapping (unless (no_step r k) (unless (not_apart (net_of s) r k) (run (exchanged k r))))
 
@@ -121,12 +121,12 @@ module _ (s r : List ℕ) (k : ℕ) where
         ∙ ap (refused_or (too_long r)) (swapping_unless (stuck of_table (replay (net_of s) 0 (opening (net_of s)) r)) (unless (no_step r k) (unless (not_apart (net_of s) r k) (run (exchanged k r))))))
 
     module _ (answer : Judged) (l : List ℕ) (p : Plays (net_of s) (begin (net_of s)) r answer l) where
-      pub stopped_run : (x : table.Refusal) → answer ≡ Refused x → (answer ≡ exchange_of s r k) × (r ≡ exchanged_of s r k)
+      pub stopped_run : (x : table.Refusal) → answer ≡ Err x → (answer ≡ exchange_of s r k) × (r ≡ exchanged_of s r k)
       stopped_run x e =
           kept_run answer x e
           (p.told ∙ links_refused (too_long r) (stuck of_table (replay (net_of s) 0 (begun_at (net_of s) (begin (net_of s))) r)) (net_of s).conditions rest x (sym p.told ∙ e) ∙ sym chain)
 
-      module _ (y : ℕ) (e : answer ≡ Fine y) where
+      module _ (y : ℕ) (e : answer ≡ Ok y) where
         pub whole_run : T (runs (net_of s) (begin (net_of s)) r) × (length r ≤ most_steps)
         unfolding begun_at
         whole_run =
@@ -147,8 +147,8 @@ module _ (s r : List ℕ) (k : ℕ) where
           unfolding no_step not_apart
           not_apart_lem a = sym (sym goes ∙ rw (h, a))
 
-          pub exchanges : apart_step (net_of s) (begin (net_of s)) r k ≡ true → (Fine 2 ≡ exchange_of s r k) × (exchanged k r ≡ exchanged_of s r k)
+          pub exchanges : apart_step (net_of s) (begin (net_of s)) r k ≡ true → (Ok 2 ≡ exchange_of s r k) × (exchanged k r ≡ exchanged_of s r k)
           unfolding no_step not_apart exchanged_of
           exchanges a =
-              let z : Fine 2 ≡ exchange_of s r k = sym (sym goes ∙ rw (h, a)) in
+              let z : Ok 2 ≡ exchange_of s r k = sym (sym goes ∙ rw (h, a)) in
               (z, rw (← z))

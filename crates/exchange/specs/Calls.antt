@@ -2,8 +2,8 @@
 use Rattle.std.specs.Prelude.{List, ℕ}
 use Rattle.model.specs.Exchange.{exchanged}
 use Rattle.model.specs.Across.{Answer, run, refusal, exchange}
-use Rattle.refusal.specs.declared.Judged.{Judged}
-use Rattle.refusal.specs.declared.Judged.TheVariants.{Fine}
+use Rattle.refusal.specs.Answer.{Judged}
+use Rattle.std.specs.Prelude.{Ok}
 use Rattle.refusal.specs.Answer.{and_then}
 use Rattle.table.specs.Walk.{judge_of}
 use Rattle.table.specs.Decoded.{net_of}
@@ -12,7 +12,7 @@ use Rattle.game.specs.Calls.{leaves}
 
 -- The model's answer, fine with the two numbers that are written (01, Runs across).
 abbrev pub swapping : Answer → Judged
-swapping (run w) = Fine 2
+swapping (run w) = Ok 2
 swapping (refusal x) = refusing x
 
 -- The exchange of steps k and k + 1 (01, Runs across and Refusal numbers).

@@ -8,7 +8,7 @@ ghost use Rattle.table.specs.Decoded.{net_of};
 ghost use Rattle.exchange.specs.Played.{Exchangeable};
 ghost use Rattle.exchange.specs.Calls.{exchange_of, exchanged_of};
 
-use refusal::Judged;
+use refusal::Refusal;
 
 // Whether steps k and k + 1 of a run may change places, by the marking before step k.
 fn apart_steps<'a>(
@@ -58,26 +58,20 @@ fn swap_first(part: &mut [u16])
 }
 
 // Steps k and k + 1 of a lent run change places, where they may.
-pub fn exchange(table: &[u8], run: &mut [u16], k: usize) -> Judged
+pub fn exchange(table: &[u8], run: &mut [u16], k: usize) -> Result<usize, Refusal>
     ensures answer { result ≡ exchange_of table.now run.old k }
     ensures after { run.new ≡ exchanged_of table.now run.old k }
 {
-    let judged = table::judge(table);
-    let Judged::Fine(n) = judged else {
-        return judged;
-    };
+    let n = table::judge(table)?;
     let mut offsets = [0usize; 256];
     played::fill(table, n, &mut offsets);
     let start = played::start_held(table, n);
     let played = played::play(table, n, &offsets, &run[..], start);
-    let answer = played.answer;
-    let Judged::Fine(_) = answer else {
-        return answer;
-    };
+    played.answer?;
     if has_next(run.len(), k) {
         if apart_steps(table, n, &offsets, &run[..], k) {
             swap_first(&mut run[k..]);
-            return Judged::Fine(2);
+            return Ok(2);
         }
         return refusal::refused(17, k);
     }

@@ -6,7 +6,7 @@ ghost use Rattle.elements.specs.Needs.{Ready};
 
 use elements::Opened;
 use export_places::Place;
-use refusal::Judged;
+use refusal::Refusal;
 use std::io;
 
 // The most bytes that a table has.
@@ -92,7 +92,7 @@ fn export(rt: &impl Print, table: &[u8]) -> io::Result<()> {
     let mut start = [0u8; 65535];
     let opened = elements::open(table, &mut markers, &mut users, &mut bases, &mut start);
     let answer = opened.answer;
-    let Judged::Fine(_) = answer else {
+    let Ok(_) = answer else {
         return files::refuse(rt, answer);
     };
     show(rt, table, opened, &markers, &users, &bases, &start)

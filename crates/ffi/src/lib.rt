@@ -2,7 +2,7 @@
 #![tactic(auto)]
 
 ghost use Rattle.std.specs.Prelude.{◌≡◌, true, false, length};
-ghost use Rattle.refusal.specs.declared.Judged.TheVariants.{Fine};
+ghost use Rattle.std.specs.Prelude.{Ok};
 ghost use Rattle.refusal.specs.Answer.{and_then};
 ghost use Rattle.model.specs.Unfolding.{basic};
 ghost use Rattle.table.specs.Walk.{judge_of};
@@ -41,9 +41,9 @@ pub fn dovetrellis_judge(table: &[u8]) -> Answer
 
 // The numbers of conditions and of events.
 pub fn dovetrellis_counts(table: &[u8], conditions: &mut u64, events: &mut u64) -> Answer
-    ensures answer { result ≡ answer_of (and_then (judge_of table.now) (λ _. Fine (net_of table.now).events)) }
-    ensures some { conditions.new ≡ value_or (and_then (judge_of table.now) (λ _. Fine (net_of table.now).conditions)) conditions.old }
-    ensures others { events.new ≡ value_or (and_then (judge_of table.now) (λ _. Fine (net_of table.now).events)) events.old }
+    ensures answer { result ≡ answer_of (and_then (judge_of table.now) (λ _. Ok (net_of table.now).events)) }
+    ensures some { conditions.new ≡ value_or (and_then (judge_of table.now) (λ _. Ok (net_of table.now).conditions)) conditions.old }
+    ensures others { events.new ≡ value_or (and_then (judge_of table.now) (λ _. Ok (net_of table.now).events)) events.old }
 {
     let judged = table::event_count(table);
     outward::put_value(table::condition_count(table), conditions);
@@ -114,9 +114,9 @@ pub fn dovetrellis_exchange(table: &[u8], run: &mut [u16], k: u64) -> Answer
 
 // The numbers of unfolded conditions and of unfolded events.
 pub fn dovetrellis_unfolded_counts(table: &[u8], conditions: &mut u64, events: &mut u64) -> Answer
-    ensures answer { result ≡ answer_of (unfolding_of table.now (Fine (basic (net_of table.now)).events)) }
-    ensures some { conditions.new ≡ value_or (unfolding_of table.now (Fine (basic (net_of table.now)).conditions)) conditions.old }
-    ensures others { events.new ≡ value_or (unfolding_of table.now (Fine (basic (net_of table.now)).events)) events.old }
+    ensures answer { result ≡ answer_of (unfolding_of table.now (Ok (basic (net_of table.now)).events)) }
+    ensures some { conditions.new ≡ value_or (unfolding_of table.now (Ok (basic (net_of table.now)).conditions)) conditions.old }
+    ensures others { events.new ≡ value_or (unfolding_of table.now (Ok (basic (net_of table.now)).events)) events.old }
 {
     let judged = unfolding::event_count(table);
     outward::put_value(unfolding::condition_count(table), conditions);

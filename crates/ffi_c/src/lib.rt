@@ -3,7 +3,7 @@
 #![tactic(auto)]
 
 ghost use Rattle.std.specs.Prelude.{◌≡◌, true, false, length};
-ghost use Rattle.refusal.specs.declared.Judged.TheVariants.{Fine};
+ghost use Rattle.std.specs.Prelude.{Ok};
 ghost use Rattle.refusal.specs.Answer.{and_then};
 ghost use Rattle.model.specs.Unfolding.{basic};
 ghost use Rattle.table.specs.Walk.{judge_of};
@@ -43,9 +43,9 @@ pub extern "C" fn dovetrellis_judge(table: &[u8]) -> Answer
 // The numbers of conditions and of events.
 #[unsafe(no_mangle)]
 pub extern "C" fn dovetrellis_counts(table: &[u8], conditions: &mut u64, events: &mut u64) -> Answer
-    ensures answer { result ≡ answer_of (and_then (judge_of table.now) (λ _. Fine (net_of table.now).events)) }
-    ensures some { conditions.new ≡ value_or (and_then (judge_of table.now) (λ _. Fine (net_of table.now).conditions)) conditions.old }
-    ensures others { events.new ≡ value_or (and_then (judge_of table.now) (λ _. Fine (net_of table.now).events)) events.old }
+    ensures answer { result ≡ answer_of (and_then (judge_of table.now) (λ _. Ok (net_of table.now).events)) }
+    ensures some { conditions.new ≡ value_or (and_then (judge_of table.now) (λ _. Ok (net_of table.now).conditions)) conditions.old }
+    ensures others { events.new ≡ value_or (and_then (judge_of table.now) (λ _. Ok (net_of table.now).events)) events.old }
 {
     ffi::dovetrellis_counts(table, conditions, events)
 }
@@ -131,9 +131,9 @@ pub extern "C" fn dovetrellis_unfolded_counts(
     conditions: &mut u64,
     events: &mut u64,
 ) -> Answer
-    ensures answer { result ≡ answer_of (unfolding_of table.now (Fine (basic (net_of table.now)).events)) }
-    ensures some { conditions.new ≡ value_or (unfolding_of table.now (Fine (basic (net_of table.now)).conditions)) conditions.old }
-    ensures others { events.new ≡ value_or (unfolding_of table.now (Fine (basic (net_of table.now)).events)) events.old }
+    ensures answer { result ≡ answer_of (unfolding_of table.now (Ok (basic (net_of table.now)).events)) }
+    ensures some { conditions.new ≡ value_or (unfolding_of table.now (Ok (basic (net_of table.now)).conditions)) conditions.old }
+    ensures others { events.new ≡ value_or (unfolding_of table.now (Ok (basic (net_of table.now)).events)) events.old }
 {
     ffi::dovetrellis_unfolded_counts(table, conditions, events)
 }

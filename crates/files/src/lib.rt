@@ -3,7 +3,7 @@
 
 ghost use Rattle.filling.specs.Counts.{IsPrefixLen};
 
-use refusal::Judged;
+use refusal::Refusal;
 use std::rt::Files;
 use std::{fs, io};
 
@@ -24,7 +24,7 @@ pub fn read_file(rt: &impl Files, path: &[u8], buffer: &mut [u8]) -> usize
 }
 
 // The line of a refusal written out.
-pub fn refuse(rt: &impl Print, answer: Judged) -> io::Result<()> {
+pub fn refuse(rt: &impl Print, answer: Result<usize, Refusal>) -> io::Result<()> {
     let mut text = [0u8; 2048];
     let count = lines::write_refused(answer, &mut text);
     rt.write_all(&text[0..count])

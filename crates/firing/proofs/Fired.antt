@@ -22,7 +22,7 @@ use Rattle.tally.proofs.Events.{judged}
 use Rattle.segments.specs.Ranges.{Owned}
 use Rattle.model.specs.Lent.{bit, bytes, marking}
 use Rattle.model.proofs.Lent.{bytes_are}
-use Rattle.refusal.specs.declared.Judged.TheVariants.{Fine}
+use Rattle.std.specs.Prelude.{Ok}
 use Rattle.step.specs.Lent.{Lent}
 use Rattle.step.specs.Steps.{set_all, stepped}
 use Rattle.game.specs.Calls.{firing_stopped, leaves}
@@ -113,12 +113,12 @@ list_inside n j false b t = at_lt (unfolded_conditions n) b (in_pre n j b t).1
 
 -- ---- the call
 
-pub answers : (o : Option Stop) (c : ℕ) → answered_of (step_of o) c ≡ refused_or (firing_stopped of_unfolding o) (Fine c)
+pub answers : (o : Option Stop) (c : ℕ) → answered_of (step_of o) c ≡ refused_or (firing_stopped of_unfolding o) (Ok c)
 answers none c = refl
 answers (some unknown) c = refl
 answers (some (lacks b)) c = refl
 answers (some (meets b)) c = refl
 
-pub leaves_so : (o : Option Stop) (c : ℕ) (new old : List ℕ) → stepped o new old ≡ leaves (refused_or (firing_stopped of_unfolding o) (Fine c)) new old
+pub leaves_so : (o : Option Stop) (c : ℕ) (new old : List ℕ) → stepped o new old ≡ leaves (refused_or (firing_stopped of_unfolding o) (Ok c)) new old
 leaves_so none c new old = refl
 leaves_so (some v) c new old = refl

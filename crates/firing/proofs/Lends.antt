@@ -11,8 +11,8 @@ use Rattle.model.specs.Unfolding.{basic}
 use Rattle.model.specs.Across.{of_unfolding}
 use Rattle.model.specs.Numbering.{size, event_count}
 use Rattle.model.specs.Lent.{bytes, marking}
-use Rattle.refusal.specs.declared.Judged.{Judged}
-use Rattle.refusal.specs.declared.Judged.TheVariants.{Fine, Refused}
+use Rattle.refusal.specs.Answer.{Judged}
+use Rattle.std.specs.Prelude.{Ok, Err}
 use Rattle.refusal.specs.declared.Refusal.{Refusal}
 use Rattle.refusal.specs.Answer.{refused_at}
 use Rattle.refusal.proofs.Chain.{never_both}
@@ -39,7 +39,7 @@ use Rattle.firing.proofs.Fired.{stops_past, answers, leaves_so}
 -- ---- the table and the marking
 
 module _ (s m : List ℕ) (r : Judged) (ms us bs : List ℕ) (o : LaidOut s r ms us bs) where
-  pub lend_refused : (x : Refusal) → r ≡ Refused x → Lending s m r ms us bs
+  pub lend_refused : (x : Refusal) → r ≡ Err x → Lending s m r ms us bs
   lend_refused x t =
       record {
         refuses = λ own y e. unfolds_passed s (lent (basic (net_of s)).conditions m own) (net_of s).events o.answer e;
@@ -50,13 +50,13 @@ module _ (s m : List ℕ) (r : Judged) (ms us bs : List ℕ) (o : LaidOut s r ms
         events = λ k e. never_both (sym e ∙ t);
       }
 
-  module _ (k : ℕ) (t : r ≡ Fine k) where
+  module _ (k : ℕ) (t : r ≡ Ok k) where
     on : (own : Judged) → unfolding_of s own ≡ own
     on own = (unfolds_on s own (net_of s).events o.answer t).0
 
     pub count_is : (w c : ℕ) → w ≡ conditions s → c ≡ get_or bs w 0 → c ≡ (basic (net_of s)).conditions
     count_is w c iw ic =
-        let j = unfolds_judged s (Fine 0) (net_of s).events o.answer t in
+        let j = unfolds_judged s (Ok 0) (net_of s).events o.answer t in
         ic ∙ ap (λ (x : ℕ). get_or bs x 0) iw ∙ conditions_count s ms us bs j.0 (o.laid k t) j.1
 
     refusing : (p : ℕ) (a : Judged) → a ≡ refused_at 18 p → ((own : Judged) → refused_at 18 p ≡ lent (basic (net_of s)).conditions m own) → Lending s m a ms us bs
@@ -87,21 +87,21 @@ module _ (s m : List ℕ) (r : Judged) (ms us bs : List ℕ) (o : LaidOut s r ms
             laid = λ i e. o.laid i e;
             lents = λ i e. lent_of m (none_above m (omega arith));
             long = λ i e. h ∙ ic;
-            events = λ i e. (unfolds_on s (Fine 0) (net_of s).events o.answer e).1;
+            events = λ i e. (unfolds_on s (Ok 0) (net_of s).events o.answer e).1;
           }
 
 -- ---- the call
 
 module _ (s m : List ℕ) (j : ℕ) (r : Judged) (ms us bs : List ℕ) (o : Lending s m r ms us bs) where
-  pub fire_refused : (x : Refusal) → r ≡ Refused x → (r ≡ unfolded_fire_of s m j) × (m ≡ unfolded_fired_of s m j)
+  pub fire_refused : (x : Refusal) → r ≡ Err x → (r ≡ unfolded_fire_of s m j) × (m ≡ unfolded_fired_of s m j)
   unfolding unfolded_fire_of unfolded_fired_of
   fire_refused x t =
-      let own = refused_or (firing_stopped of_unfolding (stopping (basic (net_of s)) (marking m) j)) (Fine (basic (net_of s)).conditions) in
+      let own = refused_or (firing_stopped of_unfolding (stopping (basic (net_of s)) (marking m) j)) (Ok (basic (net_of s)).conditions) in
       let a = o.refuses own x t in
       (a, sym (ap (λ (y : Judged). leaves y (bytes (basic (net_of s)).conditions (fire (basic (net_of s)) (marking m) j)) m) (sym a ∙ t)))
 
-  module _ (k : ℕ) (t : r ≡ Fine k) where
-    is_own : unfolded_fire_of s m j ≡ refused_or (firing_stopped of_unfolding (stopping (basic (net_of s)) (marking m) j)) (Fine (basic (net_of s)).conditions)
+  module _ (k : ℕ) (t : r ≡ Ok k) where
+    is_own : unfolded_fire_of s m j ≡ refused_or (firing_stopped of_unfolding (stopping (basic (net_of s)) (marking m) j)) (Ok (basic (net_of s)).conditions)
     unfolding unfolded_fire_of
     is_own = o.goes _ k t
 
@@ -120,7 +120,7 @@ module _ (s m : List ℕ) (j : ℕ) (r : Judged) (ms us bs : List ℕ) (o : Lend
       unfolding unfolded_fired_of
       fire_answers x c a after ic ix ia e =
           let i = o.long k t in
-          let told : a ≡ refused_or (firing_stopped of_unfolding (stopping (basic (net_of s)) (marking m) j)) (Fine (basic (net_of s)).conditions)
+          let told : a ≡ refused_or (firing_stopped of_unfolding (stopping (basic (net_of s)) (marking m) j)) (Ok (basic (net_of s)).conditions)
           = e ∙ rw (ix, ic ∙ i, w.left) (answers (stopping (basic (net_of s)) (marking m) j) (basic (net_of s)).conditions) in
           let new = bytes (basic (net_of s)).conditions (fire (basic (net_of s)) (marking m) j) in
           (told ∙ sym is_own, ia ∙ rw w.left (leaves_so (stopping (basic (net_of s)) (marking m) j) (basic (net_of s)).conditions new m) ∙ ap (λ (y : Judged). leaves y new m) (sym is_own))

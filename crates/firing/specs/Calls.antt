@@ -4,8 +4,8 @@ use Rattle.model.specs.Net.{fire, stopping}
 use Rattle.model.specs.Unfolding.{basic}
 use Rattle.model.specs.Across.{of_unfolding}
 use Rattle.model.specs.Lent.{bytes, marking}
-use Rattle.refusal.specs.declared.Judged.{Judged}
-use Rattle.refusal.specs.declared.Judged.TheVariants.{Fine}
+use Rattle.refusal.specs.Answer.{Judged}
+use Rattle.std.specs.Prelude.{Ok}
 use Rattle.table.specs.Decoded.{net_of}
 use Rattle.table.specs.Links.{refused_or}
 use Rattle.layout.specs.Unfolds.{unfolding_of}
@@ -17,7 +17,7 @@ use Rattle.game.specs.Calls.{firing_stopped, leaves}
 unfoldable pub unfolded_fire_of : List ℕ → List ℕ → ℕ → Judged
 unfolded_fire_of s m j =
     unfolding_of s (lent (basic (net_of s)).conditions m
-    (refused_or (firing_stopped of_unfolding (stopping (basic (net_of s)) (marking m) j)) (Fine (basic (net_of s)).conditions)))
+    (refused_or (firing_stopped of_unfolding (stopping (basic (net_of s)) (marking m) j)) (Ok (basic (net_of s)).conditions)))
 
 -- The lent unfolded marking after it (01, Playing the table).
 unfoldable pub unfolded_fired_of : List ℕ → List ℕ → ℕ → List ℕ

@@ -16,7 +16,7 @@ ghost use Rattle.walking.specs.Steps.{stops, Summed, Below};
 ghost use Rattle.firing.specs.Calls.{unfolded_fire_of, unfolded_fired_of};
 ghost use Rattle.firing.specs.Steps.{Lending};
 
-use refusal::{Judged, UnfoldedEvent};
+use refusal::{Refusal, UnfoldedEvent};
 use segments::Owner;
 use unfolded_step::Step;
 use unfolding::Found;
@@ -109,14 +109,11 @@ fn lend<'a>(
     markers: &mut [u32],
     users: &mut [u32],
     bases: &mut [u32],
-) -> Judged
+) -> Result<usize, Refusal>
     requires { (length markers.old ≡ 256) × (length users.old ≡ 256) × (length bases.old ≡ 257) }
     ensures { Lending table.now state.now result markers.new users.new bases.new }
 {
-    let r = layout::lay_out(table, markers, users, bases);
-    let Judged::Fine(_) = r else {
-        return r;
-    };
+    layout::lay_out(table, markers, users, bases)?;
     let count = tally::number(&bases[..], records::conditions(table) as usize) as usize;
     if state.len() != count {
         return refusal::refused(18, count);
@@ -129,17 +126,14 @@ fn lend<'a>(
 }
 
 // An unfolded event fired at a lent unfolded marking, over which the new one is written.
-pub fn unfolded_fire(table: &[u8], marking: &mut [u8], j: UnfoldedEvent) -> Judged
+pub fn unfolded_fire(table: &[u8], marking: &mut [u8], j: UnfoldedEvent) -> Result<usize, Refusal>
     ensures answer { result ≡ unfolded_fire_of table.now marking.old j.0 }
     ensures after { marking.new ≡ unfolded_fired_of table.now marking.old j.0 }
 {
     let mut markers = [0u32; 256];
     let mut users = [0u32; 256];
     let mut bases = [0u32; 257];
-    let r = lend(table, &marking[..], &mut markers, &mut users, &mut bases);
-    let Judged::Fine(events) = r else {
-        return r;
-    };
+    let events = lend(table, &marking[..], &mut markers, &mut users, &mut bases)?;
     let wanted = j.0 as u32;
     let f = unfolding::owner(table, events, &markers, wanted);
     let Found::At(e, at, rest, weight) = f else {

@@ -11,7 +11,7 @@ use Rattle.words.specs.Words.{words}
 use Rattle.model.specs.Runs.{at_start, by_event, marker, or_else}
 use Rattle.model.specs.Across.{marks_for_others}
 use Rattle.refusal.specs.declared.Marker.TheVariants.{Start, ByEvent}
-use Rattle.refusal.specs.declared.Judged.TheVariants.{Fine}
+use Rattle.std.specs.Prelude.{Ok}
 use Rattle.records.specs.Records.{marking_part}
 use Rattle.table.specs.Walk.{judge_of, offset_of}
 use Rattle.table.specs.Decoded.{net_of}
@@ -33,7 +33,7 @@ no_slots_length : length no_slots ≡ 256
 unfolding no_slots
 no_slots_length = length-replicate {A = Slot} 256 (record { 0 = Unset })
 
-module _ (s : List ℕ) (events : ℕ) (j : judge_of s ≡ Fine events) where
+module _ (s : List ℕ) (events : ℕ) (j : judge_of s ≡ Ok events) where
   pub few_events : events < 257
   few_events = omega (arith, (tabled s events j).few_events, events_are_all s events j)
 

@@ -3,7 +3,7 @@ use Rattle.std.specs.Prelude.{ℕ, ◌<◌, ◌≡◌, List, T, eqb, length, get
 use Rattle.model.specs.Net.{Net, begin}
 use Rattle.model.specs.Runs.{runs, State, opening, after}
 use Rattle.model.specs.Across.{own_or_earliest, repeated}
-use Rattle.refusal.specs.declared.Judged.TheVariants.{Fine}
+use Rattle.std.specs.Prelude.{Ok}
 use Rattle.table.specs.Walk.{judge_of}
 use Rattle.table.specs.Decoded.{net_of}
 use Rattle.played.specs.Played.{Indexed}
@@ -13,7 +13,7 @@ use Rattle.firsts.specs.Firsts.{first_at, repeat_of}
 
 -- A judged table with its index, and a run of it from its start.
 pub record Walkable (s : List ℕ) (events : ℕ) (offsets r : List ℕ) : Type 0 where
-  pub judged : judge_of s ≡ Fine events
+  pub judged : judge_of s ≡ Ok events
   pub indexed : Indexed s events offsets
   pub plays : T (runs (net_of s) (begin (net_of s)) r)
 

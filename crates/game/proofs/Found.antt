@@ -14,8 +14,8 @@ use Rattle.lists.proofs.Tests.{fits_ascends, fits_in, fits_of}
 use Rattle.model.specs.Net.{Marking, free, lacking, contact, fire, Stop, unknown, lacks, meets, stopping}
 use Rattle.model.specs.Across.{of_table, stopped}
 use Rattle.refusal.specs.declared.Refusal.{Refusal}
-use Rattle.refusal.specs.declared.Judged.{Judged}
-use Rattle.refusal.specs.declared.Judged.TheVariants.{Fine, Refused}
+use Rattle.refusal.specs.Answer.{Judged}
+use Rattle.std.specs.Prelude.{Ok, Err}
 use Rattle.refusal.specs.Answer.{need, and_then}
 use Rattle.refusal.proofs.Chain.{need_fine, goes_on}
 use Rattle.words.specs.Words.{words}
@@ -39,18 +39,18 @@ use Rattle.game.proofs.Marked.{on_then, on_fine}
 
 -- ---- the record's net and the table's
 
-module _ (s : List ℕ) (n : ℕ) (j : judge_of s ≡ Fine n) (e : ℕ) where
+module _ (s : List ℕ) (n : ℕ) (j : judge_of s ≡ Ok n) (e : ℕ) where
   pub stopping_found : e < n → (m : Marking) → stopping (net_of s) m e ≡ stopping (record_net s (offset_of s e)) m 0
   unfolding stopping lacking contact free record_net lists_net
-  stopping_found h m = rw (net_judged s (Fine n) j, lt-ltb e n h)
+  stopping_found h m = rw (net_judged s (Ok n) j, lt-ltb e n h)
 
   pub stopping_unknown : (ltb e n ≡ false) → (m : Marking) → stopping (net_of s) m e ≡ some unknown
   unfolding stopping
-  stopping_unknown h m = rw (net_judged s (Fine n) j, h)
+  stopping_unknown h m = rw (net_judged s (Ok n) j, h)
 
   pub fire_found : (m : Marking) → fire (net_of s) m e ≡ fire (record_net s (offset_of s e)) m 0
   unfolding fire record_net lists_net
-  fire_found m = rw (net_judged s (Fine n) j)
+  fire_found m = rw (net_judged s (Ok n) j)
 
   -- its lists ascend and name conditions that there are
   pub listed_found : e < n → Recorded s (offset_of s e)
@@ -68,7 +68,7 @@ module _ (s : List ℕ) (n : ℕ) (j : judge_of s ≡ Fine n) (e : ℕ) where
 
 -- ---- a step by the event's number, on bytes l
 
-module _ (s : List ℕ) (n : ℕ) (j : judge_of s ≡ Fine n) (e : ℕ) (l : List ℕ) where
+module _ (s : List ℕ) (n : ℕ) (j : judge_of s ≡ Ok n) (e : ℕ) (l : List ℕ) where
   abbrev stops_by : Option Stop
   stops_by = stopping (net_of s) (marking l) e
 
@@ -94,7 +94,7 @@ stopped_is (lacks b) k = refl
 stopped_is (meets b) k = refl
 
 -- of a firing, at the condition
-answered_is : (o : Option Stop) (value : ℕ) → answered_of (step_of o) value ≡ refused_or (firing_stopped of_table o) (Fine value)
+answered_is : (o : Option Stop) (value : ℕ) → answered_of (step_of o) value ≡ refused_or (firing_stopped of_table o) (Ok value)
 answered_is none value = refl
 answered_is (some unknown) value = refl
 answered_is (some (lacks b)) value = refl
@@ -103,14 +103,14 @@ answered_is (some (meets b)) value = refl
 -- ---- an event asked for
 
 module _ (s m : List ℕ) (e : ℕ) where
-  pub ready_is : ready_of s m e ≡ and_then (on_marking s m Fine) (λ n. need (ltb e n) 10 0 (Fine (offset_of s e)))
+  pub ready_is : ready_of s m e ≡ and_then (on_marking s m Ok) (λ n. need (ltb e n) 10 0 (Ok (offset_of s e)))
   unfolding ready_of
-  ready_is = sym (on_then s m Fine (λ n. need (ltb e n) 10 0 (Fine (offset_of s e))))
+  ready_is = sym (on_then s m Ok (λ n. need (ltb e n) 10 0 (Ok (offset_of s e))))
 
   -- what a fine asking tells
   pub record Ready (at : ℕ) : Type 0 where
     pub events : ℕ
-    pub judged : judge_of s ≡ Fine events
+    pub judged : judge_of s ≡ Ok events
     pub long : length m ≡ conditions s
     pub few : length m ≤ 256
     pub lents : Lent m
@@ -118,11 +118,11 @@ module _ (s m : List ℕ) (e : ℕ) where
     pub place : at ≡ offset_of s e
     pub listed : Recorded s at
 
-  pub ready_fine : (at : ℕ) → ready_of s m e ≡ Fine at → Ready at
+  pub ready_fine : (at : ℕ) → ready_of s m e ≡ Ok at → Ready at
   unfolding ready_of
   ready_fine at h =
-      let k = on_fine s m (λ n. need (ltb e n) 10 0 (Fine (offset_of s e))) at h in
-      let (t, f) = need_fine (ltb e k.events) 10 0 at (Fine (offset_of s e)) k.goes in
+      let k = on_fine s m (λ n. need (ltb e n) 10 0 (Ok (offset_of s e))) at h in
+      let (t, f) = need_fine (ltb e k.events) 10 0 at (Ok (offset_of s e)) k.goes in
       let low = ltb-true e k.events t in
       let place : at ≡ offset_of s e = cc f in
       record {
@@ -140,35 +140,35 @@ module _ (s m : List ℕ) (e : ℕ) where
 
 module _ (s m : List ℕ) (e v : ℕ) where
   abbrev asking : ℕ → Judged
-  asking at = refused_or (firing_stopped of_table (stopping (record_net s at) (marking m) 0)) (Fine v)
+  asking at = refused_or (firing_stopped of_table (stopping (record_net s at) (marking m) 0)) (Ok v)
 
   pub firing_ready : firing_of s m e v ≡ and_then (ready_of s m e) asking
   unfolding firing_of ready_of on_marking need
-  firing_ready = sym (on_then s m (λ n. need (ltb e n) 10 0 (Fine (offset_of s e))) asking ∙ go (judge_of s) refl)
+  firing_ready = sym (on_then s m (λ n. need (ltb e n) 10 0 (Ok (offset_of s e))) asking ∙ go (judge_of s) refl)
     where
-      tested : (n : ℕ) → judge_of s ≡ Fine n → (b : Bool) → ltb e n ≡ b
-          → and_then (need b 10 0 (Fine (offset_of s e))) asking ≡ refused_or (firing_stopped of_table (stopping (net_of s) (marking m) e)) (Fine v)
+      tested : (n : ℕ) → judge_of s ≡ Ok n → (b : Bool) → ltb e n ≡ b
+          → and_then (need b 10 0 (Ok (offset_of s e))) asking ≡ refused_or (firing_stopped of_table (stopping (net_of s) (marking m) e)) (Ok v)
       tested n j true t = rw (stopping_found s n j e (ltb-true e n t) (marking m))
       tested n j false t = rw (stopping_unknown s n j e t (marking m))
 
       go : (x : Judged) → judge_of s ≡ x
-          → and_then x (λ n. lent (net_of s).conditions m (and_then (need (ltb e n) 10 0 (Fine (offset_of s e))) asking))
-          ≡ and_then x (λ n. lent (net_of s).conditions m (refused_or (firing_stopped of_table (stopping (net_of s) (marking m) e)) (Fine v)))
-      go (Fine n) j = ap (lent (net_of s).conditions m) (tested n j (ltb e n) refl)
-      go (Refused x) j = refl
+          → and_then x (λ n. lent (net_of s).conditions m (and_then (need (ltb e n) 10 0 (Ok (offset_of s e))) asking))
+          ≡ and_then x (λ n. lent (net_of s).conditions m (refused_or (firing_stopped of_table (stopping (net_of s) (marking m) e)) (Ok v)))
+      go (Ok n) j = ap (lent (net_of s).conditions m) (tested n j (ltb e n) refl)
+      go (Err x) j = refl
 
   -- the answer r of the step at the event's offset is that of the call
-  pub firing_told : (at : ℕ) (r : Step) → ready_of s m e ≡ Fine at → r ≡ step_of (stopping (record_net s at) (marking m) 0) → answered_of r v ≡ firing_of s m e v
+  pub firing_told : (at : ℕ) (r : Step) → ready_of s m e ≡ Ok at → r ≡ step_of (stopping (record_net s at) (marking m) 0) → answered_of r v ≡ firing_of s m e v
   firing_told at r h told =
       ap (λ (x : Step). answered_of x v) told ∙ answered_is (stopping (record_net s at) (marking m) 0) v ∙ sym (firing_ready ∙ goes_on asking (sym h) refl)
 
 -- the lent marking, by what the asking for the event answered
 module _ (s m : List ℕ) (e : ℕ) where
-  pub fired_refused : (x : Refusal) → ready_of s m e ≡ Refused x → m ≡ fired_of s m e
+  pub fired_refused : (x : Refusal) → ready_of s m e ≡ Err x → m ≡ fired_of s m e
   unfolding fired_of
   fired_refused x h = simp (firing_ready s m e (net_of s).conditions, h)
 
-  module _ (at : ℕ) (h : ready_of s m e ≡ Fine at) where
+  module _ (at : ℕ) (h : ready_of s m e ≡ Ok at) where
     abbrev stops : Option Stop
     stops = stopping (record_net s at) (marking m) 0
 
@@ -184,6 +184,6 @@ module _ (s m : List ℕ) (e : ℕ) where
     fired_fine = rw (firing_ready s m e (net_of s).conditions, h, new_is) (go stops)
       where
         go : (o : Option Stop) → stepped o (bytes (net_of s).conditions (fire (net_of s) (marking m) e)) m
-            ≡ leaves (refused_or (firing_stopped of_table o) (Fine (net_of s).conditions)) (bytes (net_of s).conditions (fire (net_of s) (marking m) e)) m
+            ≡ leaves (refused_or (firing_stopped of_table o) (Ok (net_of s).conditions)) (bytes (net_of s).conditions (fire (net_of s) (marking m) e)) m
         go none = refl
         go (some v) = refl

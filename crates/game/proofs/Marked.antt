@@ -7,8 +7,8 @@ use mathlib.Core.List.{List, [], ◌∷◌}
 use lib.Dec.{eqb, ltb, leb}
 use lib.ListN.{length, get_or}
 use borrow.Author.Tests.{eq-eqb, ne_eqb, lt-leb, le-leb, eqb-true, leb-true, ltb-false}
-use Rattle.refusal.specs.declared.Judged.{Judged}
-use Rattle.refusal.specs.declared.Judged.TheVariants.{Fine, Refused}
+use Rattle.refusal.specs.Answer.{Judged}
+use Rattle.std.specs.Prelude.{Ok, Err}
 use Rattle.refusal.specs.Answer.{refused_at, need, and_then}
 use Rattle.refusal.proofs.Chain.{need_passes, need_refuses, need_fine, then_fine}
 use Rattle.records.specs.Records.{conditions}
@@ -62,7 +62,7 @@ none_above (x ∷ l) h i p = go (ltb 1 x) refl h i p (λ q j r. none_above l q j
 
 -- ---- a table and its lent marking
 
-pub on_judged : (s m : List ℕ) (rest : ℕ → Judged) (n : ℕ) → judge_of s ≡ Fine n → on_marking s m rest ≡ lent (conditions s) m (rest n)
+pub on_judged : (s m : List ℕ) (rest : ℕ → Judged) (n : ℕ) → judge_of s ≡ Ok n → on_marking s m rest ≡ lent (conditions s) m (rest n)
 unfolding on_marking
 on_judged s m rest n j = simp (j, sym (conditions_are_all s n j))
 
@@ -72,19 +72,19 @@ unfolding on_marking
 on_then s m f g = go (judge_of s)
   where
     go : (j : Judged) → and_then (and_then j (λ n. lent (net_of s).conditions m (f n))) g ≡ and_then j (λ n. lent (net_of s).conditions m (and_then (f n) g))
-    go (Fine n) = then_lent (net_of s).conditions m (f n) g
-    go (Refused x) = refl
+    go (Ok n) = then_lent (net_of s).conditions m (f n) g
+    go (Err x) = refl
 
 -- what an answer past 18 tells
 pub record Marked (s m : List ℕ) (rest : ℕ → Judged) (x : ℕ) : Type 0 where
   pub events : ℕ
-  pub judged : judge_of s ≡ Fine events
+  pub judged : judge_of s ≡ Ok events
   pub long : length m ≡ conditions s
   pub few : length m ≤ 256
   pub lents : Lent m
-  pub goes : rest events ≡ Fine x
+  pub goes : rest events ≡ Ok x
 
-pub on_fine : (s m : List ℕ) (rest : ℕ → Judged) (x : ℕ) → on_marking s m rest ≡ Fine x → Marked s m rest x
+pub on_fine : (s m : List ℕ) (rest : ℕ → Judged) (x : ℕ) → on_marking s m rest ≡ Ok x → Marked s m rest x
 unfolding on_marking lent
 on_fine s m rest x e =
     let (n, j, r) = then_fine (judge_of s) _ x e in

@@ -3,8 +3,8 @@ use Rattle.std.proofs.Math.Option.{Option, none, some}
 use Rattle.std.specs.Prelude.{List, ℕ}
 use Rattle.model.specs.Net.{fire, Stop, stop_place, stopping}
 use Rattle.model.specs.Across.{Whose, of_table, Refusal, stopped}
-use Rattle.refusal.specs.declared.Judged.{Judged}
-use Rattle.refusal.specs.declared.Judged.TheVariants.{Fine, Refused}
+use Rattle.refusal.specs.Answer.{Judged}
+use Rattle.std.specs.Prelude.{Ok, Err}
 use Rattle.refusal.specs.Answer.{and_then}
 use Rattle.table.specs.Walk.{judge_of}
 use Rattle.table.specs.Decoded.{net_of}
@@ -20,8 +20,8 @@ on_marking s m rest = and_then (judge_of s) (λ n. lent (net_of s).conditions m 
 
 -- Lent memory after a call: new where the answer is fine, else as it was (01, Refusal numbers).
 abbrev pub leaves : Judged → List ℕ → List ℕ → List ℕ
-leaves (Fine value) new old = new
-leaves (Refused x) new old = old
+leaves (Ok value) new old = new
+leaves (Err x) new old = old
 
 -- ---- concession and firing
 
@@ -33,7 +33,7 @@ firing_stopped w (some v) = some (stopped w v (stop_place v))
 -- An event asked for at a lent marking: 1 to 9, 18, then 10 at 0, 11 and 12 at the condition; fine: a value (01, Refusal numbers; 02,
 -- No. 2).
 unfoldable pub firing_of : List ℕ → List ℕ → ℕ → ℕ → Judged
-firing_of s m e value = on_marking s m (λ n. refused_or (firing_stopped of_table (stopping (net_of s) (marking m) e)) (Fine value))
+firing_of s m e value = on_marking s m (λ n. refused_or (firing_stopped of_table (stopping (net_of s) (marking m) e)) (Ok value))
 
 -- Concession is only tested, so nothing is written (01, Playing the table).
 abbrev pub concession_of : List ℕ → List ℕ → ℕ → Judged

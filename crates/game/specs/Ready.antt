@@ -1,7 +1,7 @@
 -- What is judged before an event is tested, and what the judge of a lent marking needs.
 use Rattle.std.specs.Prelude.{List, ℕ, ◌≤◌, ◌<◌, ltb, length, get_or}
-use Rattle.refusal.specs.declared.Judged.{Judged}
-use Rattle.refusal.specs.declared.Judged.TheVariants.{Fine}
+use Rattle.refusal.specs.Answer.{Judged}
+use Rattle.std.specs.Prelude.{Ok}
 use Rattle.refusal.specs.Answer.{need}
 use Rattle.table.specs.Walk.{offset_of}
 use Rattle.game.specs.Calls.{on_marking}
@@ -12,4 +12,4 @@ NoneAbove l x = (i : ℕ) → i < length l → get_or l i 0 ≤ x
 
 -- An event asked for at a lent marking, before it is tested: 1 to 9, 18, 10; fine: the offset of its record (01, Refusal numbers).
 unfoldable pub ready_of : List ℕ → List ℕ → ℕ → Judged
-ready_of s m e = on_marking s m (λ n. need (ltb e n) 10 0 (Fine (offset_of s e)))
+ready_of s m e = on_marking s m (λ n. need (ltb e n) 10 0 (Ok (offset_of s e)))

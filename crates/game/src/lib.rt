@@ -2,12 +2,12 @@
 #![tactic(auto)]
 
 ghost use Rattle.std.specs.Prelude.{◌≡◌};
-ghost use Rattle.refusal.specs.declared.Judged.TheVariants.{Fine};
+ghost use Rattle.std.specs.Prelude.{Ok};
 ghost use Rattle.game.specs.Lent.{first_above};
 ghost use Rattle.game.specs.Ready.{NoneAbove, ready_of};
 ghost use Rattle.game.specs.Calls.{on_marking, concession_of, fire_of, fired_of};
 
-use refusal::{Judged, TableEvent};
+use refusal::{Refusal, TableEvent};
 
 // The bits of all bytes together, which no byte is above: a loop with no branch, so that many bytes are looked at at once.
 fn together(state: &[u8]) -> u8
@@ -40,13 +40,10 @@ pub fn first_above(state: &[u8]) -> usize
 }
 
 // A table and a lent marking of it, both judged; fine: the number of events.
-pub fn judge_lent<'a>(table: &'a [u8], marking: &'a [u8]) -> Judged
-    ensures { result ≡ on_marking table.now marking.now Fine }
+pub fn judge_lent<'a>(table: &'a [u8], marking: &'a [u8]) -> Result<usize, Refusal>
+    ensures { result ≡ on_marking table.now marking.now Ok }
 {
-    let judged = table::judge(table);
-    let Judged::Fine(_) = judged else {
-        return judged;
-    };
+    table::judge(table)?;
     let count = records::conditions(table) as usize;
     if marking.len() != count {
         return refusal::refused(18, count);
@@ -59,40 +56,31 @@ pub fn judge_lent<'a>(table: &'a [u8], marking: &'a [u8]) -> Judged
 }
 
 // An event asked for at a lent marking; fine: the offset of its record.
-fn ready<'a>(table: &'a [u8], marking: &'a [u8], e: u16) -> Judged
+fn ready<'a>(table: &'a [u8], marking: &'a [u8], e: u16) -> Result<usize, Refusal>
     ensures { result ≡ ready_of table.now marking.now e }
 {
-    let judged = judge_lent(table, marking);
-    let Judged::Fine(n) = judged else {
-        return judged;
-    };
+    let n = judge_lent(table, marking)?;
     if (e as usize) < n {
-        Judged::Fine(table::offset(table, e))
+        Ok(table::offset(table, e))
     } else {
         refusal::refused(10, 0)
     }
 }
 
 // Whether an event has concession at a lent marking.
-pub fn concession<'a>(table: &'a [u8], marking: &'a [u8], event: TableEvent) -> Judged
+pub fn concession<'a>(table: &'a [u8], marking: &'a [u8], event: TableEvent) -> Result<usize, Refusal>
     ensures { result ≡ concession_of table.now marking.now event.0 }
 {
-    let asked = ready(table, marking, event.0);
-    let Judged::Fine(at) = asked else {
-        return asked;
-    };
+    let at = ready(table, marking, event.0)?;
     step::answered(step::test_at(table, at, marking), 0)
 }
 
 // An event fired at a lent marking, over which the new one is written.
-pub fn fire(table: &[u8], marking: &mut [u8], event: TableEvent) -> Judged
+pub fn fire(table: &[u8], marking: &mut [u8], event: TableEvent) -> Result<usize, Refusal>
     ensures answer { result ≡ fire_of table.now marking.old event.0 }
     ensures after { marking.new ≡ fired_of table.now marking.old event.0 }
 {
-    let asked = ready(table, &marking[..], event.0);
-    let Judged::Fine(at) = asked else {
-        return asked;
-    };
+    let at = ready(table, &marking[..], event.0)?;
     let count = marking.len();
     step::answered(step::step_at(table, at, marking), count)
 }

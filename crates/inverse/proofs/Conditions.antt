@@ -19,8 +19,8 @@ use Rattle.refusal.specs.declared.Marker as declared
 use Rattle.refusal.specs.declared.Marker.TheVariants.{Start, ByEvent}
 use Rattle.refusal.specs.declared.TableCondition.{TableCondition}
 use Rattle.refusal.specs.declared.TableEvent.{TableEvent}
-use Rattle.refusal.specs.declared.Judged.{Judged}
-use Rattle.refusal.specs.declared.Judged.TheVariants.{Fine, Refused}
+use Rattle.refusal.specs.Answer.{Judged}
+use Rattle.std.specs.Prelude.{Ok, Err}
 use Rattle.refusal.specs.Answer.{need}
 use Rattle.refusal.proofs.Chain.{need_passes, need_fine}
 use Rattle.table.specs.Decoded.{net_of}
@@ -50,51 +50,51 @@ module _ (s : List ℕ) where
   -- ---- from a number to its condition and back
 
   told_number : (i : ℕ) (a : Judged) (p : UnfoldedCondition) → condition_judged s i ≡ a → origin_value (told_if a (condition_at (net_of s) i)) ≡ some p
-      → unfolding_of s (numbered (net_of s) p) ≡ Fine i
+      → unfolding_of s (numbered (net_of s) p) ≡ Ok i
   unfolding condition_judged condition_at numbered basic
-  told_number i (Refused x) p e v = absurd (let z : ◌≡◌ {A = ℕ} 0 1 = cc v in omega arith)
-  told_number i (Fine k) p e v =
+  told_number i (Err x) p e v = absurd (let z : ◌≡◌ {A = ℕ} 0 1 = cc v in omega arith)
+  told_number i (Ok k) p e v =
       let q = condition_at (net_of s) i in
       let same : q ≡ p = let z : some q ≡ some p = sym (value_told q) ∙ v in cc in
-      let o = prefix_passed s (need (ltb i (basic (net_of s)).conditions) 10 0 (Fine i)) k e in
-      let low = (need_fine (ltb i (basic (net_of s)).conditions) 10 0 k (Fine i) o.1).0 in
+      let o = prefix_passed s (need (ltb i (basic (net_of s)).conditions) 10 0 (Ok i)) k e in
+      let low = (need_fine (ltb i (basic (net_of s)).conditions) 10 0 k (Ok i) o.1).0 in
       let at = at_some (unfolded_conditions (net_of s)) i (ordinary 0) (ltb→lt i (length (unfolded_conditions (net_of s))) (T_of (ltb i (length (unfolded_conditions (net_of s)))) low)) in
       let number : condition_number (net_of s) p ≡ i = condition_back (net_of s) i p (at ∙ ap some same) in
-      o.0 (numbered (net_of s) p) ∙ ap (λ (x : ℕ). need (ltb x (basic (net_of s)).conditions) 10 0 (Fine x)) number ∙ need_passes 10 0 low
+      o.0 (numbered (net_of s) p) ∙ ap (λ (x : ℕ). need (ltb x (basic (net_of s)).conditions) 10 0 (Ok x)) number ∙ need_passes 10 0 low
 
   -- What `condition_origin` tells of a number, has that number.
-  pub origin_numbered : (i : ℕ) (p : UnfoldedCondition) → origin_value (condition_origin_of s i) ≡ some p → unfolding_of s (numbered (net_of s) p) ≡ Fine i
+  pub origin_numbered : (i : ℕ) (p : UnfoldedCondition) → origin_value (condition_origin_of s i) ≡ some p → unfolding_of s (numbered (net_of s) p) ≡ Ok i
   unfolding condition_origin_of
   origin_numbered i p v = told_number i (condition_judged s i) p refl v
 
   -- So `ordinary_number` takes its answer back,
-  pub ordinary_back : (i : ℕ) (b : TableCondition) → condition_origin_of s i ≡ show.Ordinary b → ordinary_number s b.0 ≡ Fine i
+  pub ordinary_back : (i : ℕ) (b : TableCondition) → condition_origin_of s i ≡ show.Ordinary b → ordinary_number s b.0 ≡ Ok i
   ordinary_back i b e = origin_numbered i (ordinary b.0) (ap origin_value e)
 
   -- and so does `copy_number`.
-  pub copy_back : (i : ℕ) (b : TableCondition) (m : declared.Marker) (u : TableEvent) → condition_origin_of s i ≡ show.Copy b m u → copy_number s b.0 m u.0 ≡ Fine i
+  pub copy_back : (i : ℕ) (b : TableCondition) (m : declared.Marker) (u : TableEvent) → condition_origin_of s i ≡ show.Copy b m u → copy_number s b.0 m u.0 ≡ Ok i
   copy_back i b m u e = origin_numbered i (copy b.0 (meant m) u.0) (ap origin_value e)
 
   -- ---- from a condition to its number and back
 
   -- What has a number is what `condition_origin` tells of it.
-  pub numbered_origin : (p : UnfoldedCondition) (i : ℕ) → unfolding_of s (numbered (net_of s) p) ≡ Fine i → condition_origin_of s i ≡ told p
+  pub numbered_origin : (p : UnfoldedCondition) (i : ℕ) → unfolding_of s (numbered (net_of s) p) ≡ Ok i → condition_origin_of s i ≡ told p
   unfolding condition_origin_of condition_judged condition_at numbered basic condition_number
   numbered_origin p i e =
       let k = condition_number (net_of s) p in
       let o = prefix_passed s (numbered (net_of s) p) i e in
-      let f = need_fine (ltb k (basic (net_of s)).conditions) 10 0 i (Fine k) o.1 in
+      let f = need_fine (ltb k (basic (net_of s)).conditions) 10 0 i (Ok k) o.1 in
       let same : k ≡ i = fine_same k i f.1 in
       let r = index_found (same_condition p) (unfolded_conditions (net_of s)) (ltb→lt k (length (unfolded_conditions (net_of s))) (T_of (ltb k (length (unfolded_conditions (net_of s)))) f.0)) in
       let there : p ∈ unfolded_conditions (net_of s) = subst (λ (q : UnfoldedCondition). q ∈ unfolded_conditions (net_of s)) (sym (same_condition_eq p r.0 r.2)) r.1 in
       let at : get_elem? (unfolded_conditions (net_of s)) i ≡ some p = subst (λ (x : ℕ). get_elem? (unfolded_conditions (net_of s)) x ≡ some p) same (condition_at_lem (net_of s) p there) in
-      let fine : condition_judged s i ≡ Fine i = o.0 (need (ltb i (basic (net_of s)).conditions) 10 0 (Fine i)) ∙ need_passes 10 0 (lt-ltb i (length (unfolded_conditions (net_of s))) (at_lt (unfolded_conditions (net_of s)) i at)) in
+      let fine : condition_judged s i ≡ Ok i = o.0 (need (ltb i (basic (net_of s)).conditions) 10 0 (Ok i)) ∙ need_passes 10 0 (lt-ltb i (length (unfolded_conditions (net_of s))) (at_lt (unfolded_conditions (net_of s)) i at)) in
       ap (λ (a : Judged). told_if a (condition_at (net_of s) i)) fine ∙ ap told (at_get_d (unfolded_conditions (net_of s)) i (ordinary 0) at)
 
   -- So it takes the answer of `ordinary_number` back,
-  pub ordinary_forth : (b i : ℕ) → ordinary_number s b ≡ Fine i → condition_origin_of s i ≡ show.Ordinary (record { 0 = b })
+  pub ordinary_forth : (b i : ℕ) → ordinary_number s b ≡ Ok i → condition_origin_of s i ≡ show.Ordinary (record { 0 = b })
   ordinary_forth b i e = numbered_origin (ordinary b) i e
 
   -- and that of `copy_number`.
-  pub copy_forth : (b : ℕ) (m : declared.Marker) (u i : ℕ) → copy_number s b m u ≡ Fine i → condition_origin_of s i ≡ show.Copy (record { 0 = b }) m (record { 0 = u })
+  pub copy_forth : (b : ℕ) (m : declared.Marker) (u i : ℕ) → copy_number s b m u ≡ Ok i → condition_origin_of s i ≡ show.Copy (record { 0 = b }) m (record { 0 = u })
   copy_forth b m u i e = numbered_origin (copy b (meant m) u) i e ∙ ap (λ (x : declared.Marker). show.Copy (record { 0 = b }) x (record { 0 = u })) (shown_meant m)

@@ -15,8 +15,8 @@ use Rattle.model.specs.Unfolding.{UnfoldedEvent, markers, reads, unfolded_events
 use Rattle.model.specs.Numbering.{same_event, number}
 use Rattle.model.proofs.Unfolded.{Each, choices_each, colour_out, origin_in}
 use Rattle.model.proofs.Numbers.{same_event_eq}
-use Rattle.refusal.specs.declared.Judged.{Judged}
-use Rattle.refusal.specs.declared.Judged.TheVariants.{Fine, Refused}
+use Rattle.refusal.specs.Answer.{Judged}
+use Rattle.std.specs.Prelude.{Ok, Err}
 use Rattle.refusal.specs.Answer.{need}
 use Rattle.refusal.proofs.Chain.{need_passes, need_fine, never_both}
 use Rattle.table.specs.Decoded.{net_of}
@@ -49,35 +49,35 @@ few_markers n t x i =
 
 module _ (s : List ℕ) where
   -- what an origin's answer says of its parts
-  origin_parts : (j : ℕ) (a : Judged) (k : ℕ) → origin_judged s j ≡ a → (origin_if a (origin (net_of s) j)).answer ≡ Fine k
-      → (origin_judged s j ≡ Fine k) × (origin_if a (origin (net_of s) j) ≡ origin_if (Fine k) (origin (net_of s) j))
-  origin_parts j (Refused x) k e t = never_both (sym t)
-  origin_parts j (Fine n) k e t = (e ∙ t, ap (λ (a : Judged). origin_if a (origin (net_of s) j)) t)
+  origin_parts : (j : ℕ) (a : Judged) (k : ℕ) → origin_judged s j ≡ a → (origin_if a (origin (net_of s) j)).answer ≡ Ok k
+      → (origin_judged s j ≡ Ok k) × (origin_if a (origin (net_of s) j) ≡ origin_if (Ok k) (origin (net_of s) j))
+  origin_parts j (Err x) k e t = never_both (sym t)
+  origin_parts j (Ok n) k e t = (e ∙ t, ap (λ (a : Judged). origin_if a (origin (net_of s) j)) t)
 
   module _ (u : (own : Judged) → unfolding_of s own ≡ own) where
     tabled_net : Tabled (net_of s)
-    tabled_net = let j = unfolds_judged s (Fine 0) 0 (sym (u (Fine 0))) refl in tabled s j.0 j.1
+    tabled_net = let j = unfolds_judged s (Ok 0) 0 (sym (u (Ok 0))) refl in tabled s j.0 j.1
 
-    number_fine : (e : ℕ) (c : Colour) (j : ℕ) → number (net_of s) (record { event = e; colour = colour_of c }) ≡ j → ltb j (basic (net_of s)).events ≡ true → number_of s e c ≡ Fine j
+    number_fine : (e : ℕ) (c : Colour) (j : ℕ) → number (net_of s) (record { event = e; colour = colour_of c }) ≡ j → ltb j (basic (net_of s)).events ≡ true → number_of s e c ≡ Ok j
     unfolding number_of
-    number_fine e c j q low = u _ ∙ ap (λ (x : ℕ). need (ltb x (basic (net_of s)).events) 10 0 (Fine x)) q ∙ need_passes 10 0 low
+    number_fine e c j q low = u _ ∙ ap (λ (x : ℕ). need (ltb x (basic (net_of s)).events) 10 0 (Ok x)) q ∙ need_passes 10 0 low
 
     -- an unfolded event as it is told, by the number that it stands at
     told_event : (j : ℕ) (x : UnfoldedEvent) → x ∈ unfolded_events (net_of s) → origin (net_of s) j ≡ x → ltb j (basic (net_of s)).events ≡ true
-        → origin_of s j ≡ origin_if (Fine (length x.colour)) x
+        → origin_of s j ≡ origin_if (Ok (length x.colour)) x
     unfolding origin_of origin_judged
     told_event j x i o low =
-        let fine : origin_judged s j ≡ Fine (length (origin (net_of s) j).colour) = u _ ∙ need_passes 10 0 low in
-        ap (λ (a : Judged). origin_if a (origin (net_of s) j)) fine ∙ ap (λ (y : UnfoldedEvent). origin_if (Fine (length y.colour)) y) o
+        let fine : origin_judged s j ≡ Ok (length (origin (net_of s) j).colour) = u _ ∙ need_passes 10 0 low in
+        ap (λ (a : Judged). origin_if a (origin (net_of s) j)) fine ∙ ap (λ (y : UnfoldedEvent). origin_if (Ok (length y.colour)) y) o
 
   -- What `event_origin` tells of a number, `event_number` takes back to it.
-  pub event_back : (j k : ℕ) → (origin_of s j).answer ≡ Fine k → number_of s (origin_of s j).event.0 (origin_of s j).colour ≡ Fine j
+  pub event_back : (j k : ℕ) → (origin_of s j).answer ≡ Ok k → number_of s (origin_of s j).event.0 (origin_of s j).colour ≡ Ok j
   unfolding origin_of origin_judged
   event_back j k t =
       let x = origin (net_of s) j in
       let p = origin_parts j (origin_judged s j) k refl t in
-      let o = prefix_passed s (need (ltb j (basic (net_of s)).events) 10 0 (Fine (length x.colour))) k p.0 in
-      let low = (need_fine (ltb j (basic (net_of s)).events) 10 0 k (Fine (length x.colour)) o.1).0 in
+      let o = prefix_passed s (need (ltb j (basic (net_of s)).events) 10 0 (Ok (length x.colour))) k p.0 in
+      let low = (need_fine (ltb j (basic (net_of s)).events) 10 0 k (Ok (length x.colour)) o.1).0 in
       let i = origin_in (net_of s) j (T_of (ltb j (basic (net_of s)).events) low) in
       let same : colour_of (push_all no_colour x.colour) ≡ x.colour = colour_told x.colour (few_markers (net_of s) (tabled_net o.0) x i) in
       ap (λ (y : EventOrigin). number_of s y.event.0 y.colour) p.1
@@ -85,14 +85,14 @@ module _ (s : List ℕ) where
       (ap (λ (c : List Marker). number (net_of s) (record { event = x.event; colour = c })) same ∙ number_origin (net_of s) j low) low
 
   -- What `event_number` gives an event and markers, `event_origin` takes back to them.
-  pub event_forth : (e : ℕ) (c : Colour) (j : ℕ) → number_of s e c ≡ Fine j
-      → ((origin_of s j).answer ≡ Fine c.count) × ((origin_of s j).event.0 ≡ e) × (colour_of (origin_of s j).colour ≡ colour_of c)
+  pub event_forth : (e : ℕ) (c : Colour) (j : ℕ) → number_of s e c ≡ Ok j
+      → ((origin_of s j).answer ≡ Ok c.count) × ((origin_of s j).event.0 ≡ e) × (colour_of (origin_of s j).colour ≡ colour_of c)
   unfolding number_of basic number
   event_forth e c j t =
       let x : UnfoldedEvent = record { event = e; colour = colour_of c } in
       let k = number (net_of s) x in
-      let o = prefix_passed s (need (ltb k (basic (net_of s)).events) 10 0 (Fine k)) j t in
-      let f = need_fine (ltb k (basic (net_of s)).events) 10 0 j (Fine k) o.1 in
+      let o = prefix_passed s (need (ltb k (basic (net_of s)).events) 10 0 (Ok k)) j t in
+      let f = need_fine (ltb k (basic (net_of s)).events) 10 0 j (Ok k) o.1 in
       let same : k ≡ j = fine_same k j f.1 in
       let r = index_found (same_event x) (unfolded_events (net_of s)) (ltb→lt k (length (unfolded_events (net_of s))) (T_of (ltb k (length (unfolded_events (net_of s)))) f.0)) in
       let i : x ∈ unfolded_events (net_of s) = subst (λ (y : UnfoldedEvent). y ∈ unfolded_events (net_of s)) (sym (same_event_eq x r.0 r.2)) r.1 in
@@ -100,7 +100,7 @@ module _ (s : List ℕ) where
       let low : ltb j (basic (net_of s)).events ≡ true = subst (λ (y : ℕ). ltb y (basic (net_of s)).events ≡ true) same f.0 in
       let told = told_event o.0 j x i here low in
       let long : length (colour_of c) ≡ c.count = length-map (count 0 (c.count - 0)) (marker_at c) ∙ length_count 0 (c.count - 0) ∙ omega arith in (
-        ap (λ (y : EventOrigin). y.answer) told ∙ ap Fine long,
+        ap (λ (y : EventOrigin). y.answer) told ∙ ap Ok long,
         ap (λ (y : EventOrigin). y.event.0) told,
         ap (λ (y : EventOrigin). colour_of y.colour) told ∙ colour_told (colour_of c) (few_markers (net_of s) (tabled_net o.0) x i),
       )

@@ -4,8 +4,8 @@ use mathlib.Core.Path.{◌≡◌, refl, sym}
 use mathlib.Core.List.{List}
 use mathlib.Core.Option.{Option, none, some}
 use Rattle.model.specs.Across.{Refusal, unfolding_refused}
-use Rattle.refusal.specs.declared.Judged.{Judged}
-use Rattle.refusal.specs.declared.Judged.TheVariants.{Fine, Refused}
+use Rattle.refusal.specs.Answer.{Judged}
+use Rattle.std.specs.Prelude.{Ok, Err}
 use Rattle.refusal.specs.Answer.{and_then}
 use Rattle.refusal.proofs.Chain.{never_both}
 use Rattle.table.specs.Walk.{judge_of}
@@ -13,17 +13,17 @@ use Rattle.table.specs.Decoded.{net_of}
 use Rattle.table.specs.Links.{refused_or}
 use Rattle.layout.specs.Unfolds.{unfolding_of}
 
-opened : (j : Judged) (o : Option Refusal) (own : Judged) (k : ℕ) → and_then j (λ _. refused_or o own) ≡ Fine k
-    → ((other : Judged) → and_then j (λ _. refused_or o other) ≡ other) × (own ≡ Fine k)
-opened (Refused x) o own k e = never_both (sym e)
-opened (Fine n) none own k e = (λ other. refl, e)
-opened (Fine n) (some x) own k e = never_both (sym e)
+opened : (j : Judged) (o : Option Refusal) (own : Judged) (k : ℕ) → and_then j (λ _. refused_or o own) ≡ Ok k
+    → ((other : Judged) → and_then j (λ _. refused_or o other) ≡ other) × (own ≡ Ok k)
+opened (Err x) o own k e = never_both (sym e)
+opened (Ok n) none own k e = (λ other. refl, e)
+opened (Ok n) (some x) own k e = never_both (sym e)
 
 -- Where one call on a table was fine, the prefix passes every call on it, and the call's own answer is the fine one.
-pub prefix_passed : (s : List ℕ) (own : Judged) (k : ℕ) → unfolding_of s own ≡ Fine k → ((other : Judged) → unfolding_of s other ≡ other) × (own ≡ Fine k)
+pub prefix_passed : (s : List ℕ) (own : Judged) (k : ℕ) → unfolding_of s own ≡ Ok k → ((other : Judged) → unfolding_of s other ≡ other) × (own ≡ Ok k)
 unfolding unfolding_of
 prefix_passed s own k e = opened (judge_of s) (unfolding_refused (net_of s)) own k e
 
 -- A fine number is that number.
-pub fine_same : (a b : ℕ) → Fine a ≡ Fine b → a ≡ b
+pub fine_same : (a b : ℕ) → Ok a ≡ Ok b → a ≡ b
 fine_same a b e = cc

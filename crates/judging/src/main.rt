@@ -4,18 +4,18 @@
 
 ghost use Rattle.std.specs.Prelude.{◌<◌};
 
-use refusal::Judged;
+use refusal::Refusal;
 use std::io;
 
 // One line: the number of events, or the refusal's number and place.
 fn verdict(rt: &impl Print, table: &[u8]) -> io::Result<()> {
     let r = table::judge(table);
     match r {
-        Judged::Fine(events) => {
+        Ok(events) => {
             rt.write_all(b"fine ")?;
             rt.print(events as u64)?;
         }
-        Judged::Refused(refusal) => {
+        Err(refusal) => {
             rt.write_all(b"refused ")?;
             rt.print(refusal.number as u64)?;
             rt.write_all(b" at ")?;

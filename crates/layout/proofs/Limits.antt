@@ -11,8 +11,8 @@ use Rattle.model.specs.Net.{Net}
 use Rattle.model.specs.Numbering.{size, width, condition_count, event_count}
 use Rattle.model.specs.Across.{Refusal, other, most_unfolded, within, lowest_idle, idle_or_over, unfolding_refused}
 use Rattle.refusal.specs.declared.Refusal as declared
-use Rattle.refusal.specs.declared.Judged.{Judged}
-use Rattle.refusal.specs.declared.Judged.TheVariants.{Fine, Refused}
+use Rattle.refusal.specs.Answer.{Judged}
+use Rattle.std.specs.Prelude.{Ok, Err}
 use Rattle.refusal.specs.Answer.{refused_at, and_then}
 use Rattle.refusal.proofs.Chain.{never_both, then_fine}
 use Rattle.records.specs.Records.{conditions}
@@ -30,11 +30,11 @@ use Rattle.layout.proofs.Counts.{sum_same, sum_capped, sum_capped_low, width_rea
 
 -- ---- the prefix, by what is known of the table
 
-pub table_refused : (s : List ℕ) (own : Judged) {r : Judged} {x : declared.Refusal} → r ≡ judge_of s → r ≡ Refused x → r ≡ unfolding_of s own
+pub table_refused : (s : List ℕ) (own : Judged) {r : Judged} {x : declared.Refusal} → r ≡ judge_of s → r ≡ Err x → r ≡ unfolding_of s own
 unfolding unfolding_of
 table_refused s own e t = t ∙ simp (sym e ∙ t)
 
-module _ (s : List ℕ) (own : Judged) (k : ℕ) (j : judge_of s ≡ Fine k) where
+module _ (s : List ℕ) (own : Judged) (k : ℕ) (j : judge_of s ≡ Ok k) where
   unfolding_is : (o : Option Refusal) → unfolding_refused (net_of s) ≡ o → unfolding_of s own ≡ refused_or o own
   unfolding unfolding_of
   unfolding_is o e = ap (λ (x : Judged). and_then x (λ _. refused_or (unfolding_refused (net_of s)) own)) j ∙ ap (λ (x : Option Refusal). refused_or x own) e
@@ -43,12 +43,12 @@ module _ (s : List ℕ) (own : Judged) (k : ℕ) (j : judge_of s ≡ Fine k) whe
   unfolding unfolding_refused
   idle_or_lem o e = ap (λ (x : Option ℕ). idle_or_over x (within (net_of s))) e
 
-  events_are : (o : Option ℕ) → lowest_idle (net_of s) ≡ o → events_of (net_of s) ≡ idle_or o (Fine (capped_count (net_of s)))
+  events_are : (o : Option ℕ) → lowest_idle (net_of s) ≡ o → events_of (net_of s) ≡ idle_or o (Ok (capped_count (net_of s)))
   unfolding events_of
-  events_are o e = ap (λ (x : Option ℕ). idle_or x (Fine (capped_count (net_of s)))) e
+  events_are o e = ap (λ (x : Option ℕ). idle_or x (Ok (capped_count (net_of s)))) e
 
   -- 13
-  pub idle_refused : {r : Judged} {x : declared.Refusal} → r ≡ events_of (net_of s) → r ≡ Refused x → r ≡ unfolding_of s own
+  pub idle_refused : {r : Judged} {x : declared.Refusal} → r ≡ events_of (net_of s) → r ≡ Err x → r ≡ unfolding_of s own
   idle_refused {r} {x} e t = go (lowest_idle (net_of s)) refl
     where
       go : (o : Option ℕ) → lowest_idle (net_of s) ≡ o → r ≡ unfolding_of s own
@@ -56,12 +56,12 @@ module _ (s : List ℕ) (own : Judged) (k : ℕ) (j : judge_of s ≡ Fine k) whe
       go none q = never_both (sym (events_are none q) ∙ sym e ∙ t)
 
   -- a fine answer found no event that touches nothing
-  pub all_touch : {r : Judged} {total : ℕ} → r ≡ events_of (net_of s) → r ≡ Fine total → (lowest_idle (net_of s) ≡ none) × (total ≡ capped_count (net_of s))
+  pub all_touch : {r : Judged} {total : ℕ} → r ≡ events_of (net_of s) → r ≡ Ok total → (lowest_idle (net_of s) ≡ none) × (total ≡ capped_count (net_of s))
   all_touch {r} {total} e t = go (lowest_idle (net_of s)) refl
     where
       go : (o : Option ℕ) → lowest_idle (net_of s) ≡ o → (lowest_idle (net_of s) ≡ none) × (total ≡ capped_count (net_of s))
       go (some i) q = never_both (sym (sym (events_are (some i) q) ∙ sym e ∙ t))
-      go none q = (q, let z : Fine (capped_count (net_of s)) ≡ Fine total = sym (events_are none q) ∙ sym e ∙ t in cc)
+      go none q = (q, let z : Ok (capped_count (net_of s)) ≡ Ok total = sym (events_are none q) ∙ sym e ∙ t in cc)
 
   module _ (q : lowest_idle (net_of s) ≡ none) where
     over : within (net_of s) ≡ false → refused_at 14 0 ≡ unfolding_of s own
@@ -91,9 +91,9 @@ count_whole n h = sum_capped (size n) n.events h
 
 -- ---- what is laid out
 
-module _ (s : List ℕ) (k : ℕ) (j : judge_of s ≡ Fine k) where
+module _ (s : List ℕ) (k : ℕ) (j : judge_of s ≡ Ok k) where
   pub flags_are : (b : ℕ) → flagged s b ≡ (net_of s).persistent b
-  flags_are b = sym (ap (λ (n : Net). n.persistent b) (net_judged s (Fine k) j))
+  flags_are b = sym (ap (λ (n : Net). n.persistent b) (net_judged s (Ok k) j))
 
   pub counted : (ms us : List ℕ) → Tally (net_of s) true 1 k ms → Tally (net_of s) false 0 k us → Counted s ms us
   counted ms us m u =
@@ -122,27 +122,27 @@ module _ (s : List ℕ) (k : ℕ) (j : judge_of s ≡ Fine k) where
 
 -- ---- how a call goes on after its table was laid out
 
-passed : (j : Judged) (o : Option Refusal) (own : Judged) (k : ℕ) {x : declared.Refusal} → and_then j (λ _. refused_or o (Fine k)) ≡ Refused x
-    → and_then j (λ _. refused_or o (Fine k)) ≡ and_then j (λ _. refused_or o own)
-passed (Refused y) o own k e = refl
-passed (Fine n) none own k e = never_both e
-passed (Fine n) (some y) own k e = refl
+passed : (j : Judged) (o : Option Refusal) (own : Judged) (k : ℕ) {x : declared.Refusal} → and_then j (λ _. refused_or o (Ok k)) ≡ Err x
+    → and_then j (λ _. refused_or o (Ok k)) ≡ and_then j (λ _. refused_or o own)
+passed (Err y) o own k e = refl
+passed (Ok n) none own k e = never_both e
+passed (Ok n) (some y) own k e = refl
 
-went : (j : Judged) (o : Option Refusal) (own : Judged) (k m : ℕ) → and_then j (λ _. refused_or o (Fine k)) ≡ Fine m → (and_then j (λ _. refused_or o own) ≡ own) × (m ≡ k)
-went (Refused y) o own k m e = never_both (sym e)
-went (Fine n) none own k m e = (refl, cc)
-went (Fine n) (some y) own k m e = never_both (sym e)
+went : (j : Judged) (o : Option Refusal) (own : Judged) (k m : ℕ) → and_then j (λ _. refused_or o (Ok k)) ≡ Ok m → (and_then j (λ _. refused_or o own) ≡ own) × (m ≡ k)
+went (Err y) o own k m e = never_both (sym e)
+went (Ok n) none own k m e = (refl, cc)
+went (Ok n) (some y) own k m e = never_both (sym e)
 
-module _ (s : List ℕ) (own : Judged) (k : ℕ) {r : Judged} (e : r ≡ unfolding_of s (Fine k)) where
-  pub unfolds_passed : {x : declared.Refusal} → r ≡ Refused x → r ≡ unfolding_of s own
+module _ (s : List ℕ) (own : Judged) (k : ℕ) {r : Judged} (e : r ≡ unfolding_of s (Ok k)) where
+  pub unfolds_passed : {x : declared.Refusal} → r ≡ Err x → r ≡ unfolding_of s own
   unfolding unfolding_of
   unfolds_passed t = e ∙ passed (judge_of s) (unfolding_refused (net_of s)) own k (sym e ∙ t)
 
-  pub unfolds_on : {m : ℕ} → r ≡ Fine m → (unfolding_of s own ≡ own) × (m ≡ k)
+  pub unfolds_on : {m : ℕ} → r ≡ Ok m → (unfolding_of s own ≡ own) × (m ≡ k)
   unfolding unfolding_of
   unfolds_on {m} t = went (judge_of s) (unfolding_refused (net_of s)) own k m (sym e ∙ t)
 
   -- the table was judged
-  pub unfolds_judged : {m : ℕ} → r ≡ Fine m → (j : ℕ) × (judge_of s ≡ Fine j)
+  pub unfolds_judged : {m : ℕ} → r ≡ Ok m → (j : ℕ) × (judge_of s ≡ Ok j)
   unfolding unfolding_of
-  unfolds_judged {m} t = let q = then_fine (judge_of s) (λ _. refused_or (unfolding_refused (net_of s)) (Fine k)) m (sym e ∙ t) in (q.0, q.1)
+  unfolds_judged {m} t = let q = then_fine (judge_of s) (λ _. refused_or (unfolding_refused (net_of s)) (Ok k)) m (sym e ∙ t) in (q.0, q.1)

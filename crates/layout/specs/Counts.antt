@@ -5,8 +5,8 @@ use Rattle.lists.specs.Lists.{all, empty, sum}
 use Rattle.model.specs.Net.{Net}
 use Rattle.model.specs.Numbering.{size}
 use Rattle.model.specs.Across.{lowest_idle}
-use Rattle.refusal.specs.declared.Judged.{Judged}
-use Rattle.refusal.specs.declared.Judged.TheVariants.{Fine}
+use Rattle.refusal.specs.Answer.{Judged}
+use Rattle.std.specs.Prelude.{Ok}
 use Rattle.refusal.specs.Answer.{refused_at}
 use Rattle.colours.specs.Colours.{flagged, capped}
 
@@ -31,4 +31,4 @@ idle_or none rest = rest
 -- All events looked at: 13, or how many colours they have, each number of colours capped (01, Unfolding).
 unfoldable pub events_of : Net → Judged
 unfolding capped_count lowest_idle
-events_of n = idle_or (lowest_idle n) (Fine (capped_count n))
+events_of n = idle_or (lowest_idle n) (Ok (capped_count n))

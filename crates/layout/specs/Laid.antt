@@ -3,8 +3,8 @@ use Rattle.std.specs.Prelude.{ℕ, ◌≤◌, true, false, List, ◌≡◌, leng
 use Rattle.lists.specs.Lists.{sum}
 use Rattle.model.specs.Numbering.{width, condition_count, event_count}
 use Rattle.model.specs.Across.{most_unfolded}
-use Rattle.refusal.specs.declared.Judged.{Judged}
-use Rattle.refusal.specs.declared.Judged.TheVariants.{Fine}
+use Rattle.refusal.specs.Answer.{Judged}
+use Rattle.std.specs.Prelude.{Ok}
 use Rattle.table.specs.Decoded.{net_of}
 use Rattle.table.specs.Tabled.{Tabled}
 use Rattle.tally.specs.Having.{Tally}
@@ -40,5 +40,5 @@ pub record Laid (s markers users bases : List ℕ) : Type 0 where
 
 -- What laying out answers: the prefix of every call with the number of the table's events, and the numbers where it is fine.
 pub record LaidOut (s : List ℕ) (r : Judged) (markers users bases : List ℕ) : Type 0 where
-  pub answer : r ≡ unfolding_of s (Fine (net_of s).events)
-  pub laid : (k : ℕ) → r ≡ Fine k → Laid s markers users bases
+  pub answer : r ≡ unfolding_of s (Ok (net_of s).events)
+  pub laid : (k : ℕ) → r ≡ Ok k → Laid s markers users bases

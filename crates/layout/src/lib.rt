@@ -6,13 +6,13 @@ ghost use Rattle.std.specs.Prelude.{◌≡◌, ◌≤◌, length};
 ghost use Rattle.words.specs.Words.{words};
 ghost use Rattle.table.specs.Decoded.{net_of};
 ghost use Rattle.table.specs.Walk.{judge_of};
-ghost use Rattle.refusal.specs.declared.Judged.TheVariants.{Fine};
+ghost use Rattle.std.specs.Prelude.{Ok};
 ghost use Rattle.model.specs.Numbering.{width};
 ghost use Rattle.records.specs.Records.{conditions};
 ghost use Rattle.layout.specs.Counts.{width_at, idle_at, events_of};
 ghost use Rattle.layout.specs.Laid.{Low, Sums, Counted, LaidOut};
 
-use refusal::Judged;
+use refusal::Refusal;
 
 // Whether an event with these lists touches nothing once unfolded.
 fn idle<'a>(table: &'a [u8], users: &[u32], pre: &'a [u8], post: &'a [u8]) -> bool
@@ -67,7 +67,7 @@ fn sums<'a>(table: &'a [u8], markers: &'a [u32], users: &'a [u32], bases: &mut [
 }
 
 // All events looked at: 13 at the lowest that touches nothing, else the sum of their numbers of colours.
-fn events_judged<'a>(table: &'a [u8], events: usize, markers: &'a [u32], users: &'a [u32]) -> Judged
+fn events_judged<'a>(table: &'a [u8], events: usize, markers: &'a [u32], users: &'a [u32]) -> Result<usize, Refusal>
     requires counted { Counted table.now markers.now users.now }
     requires events_value { events ≡ (net_of table.now).events }
     ensures { result ≡ events_of (net_of table.now) }
@@ -84,7 +84,7 @@ fn events_judged<'a>(table: &'a [u8], events: usize, markers: &'a [u32], users: 
         at = at + 4 + words::word(table, at) as usize;
         e = e + 1;
     }
-    Judged::Fine(total)
+    Ok(total)
 }
 
 // A counted table held against 13 and 14; fine: the number of its events.
@@ -94,34 +94,28 @@ fn within_limits<'a>(
     markers: &'a [u32],
     users: &'a [u32],
     bases: &'a [u32],
-) -> Judged
-    requires table_value { judge_of table.now ≡ Fine events }
+) -> Result<usize, Refusal>
+    requires table_value { judge_of table.now ≡ Ok events }
     requires counted { Counted table.now markers.now users.now }
     requires sums { Sums (width (net_of table.now)) (net_of table.now).conditions bases.now }
     ensures { LaidOut table.now result markers.now users.now bases.now }
 {
-    let t = events_judged(table, events, markers, users);
-    let Judged::Fine(total) = t else {
-        return t;
-    };
+    let total = events_judged(table, events, markers, users)?;
     if refusal::MOST_UNFOLDED < tally::number(bases, records::conditions(table) as usize) {
         return refusal::refused(14, 0);
     }
     if (refusal::MOST_UNFOLDED as usize) < total {
         return refusal::refused(14, 0);
     }
-    Judged::Fine(events)
+    Ok(events)
 }
 
 // A table laid out for its unfolding: judged, its numbers written where they are lent, then 13 and 14; fine: the number of its events.
-pub fn lay_out(table: &[u8], markers: &mut [u32], users: &mut [u32], bases: &mut [u32]) -> Judged
+pub fn lay_out(table: &[u8], markers: &mut [u32], users: &mut [u32], bases: &mut [u32]) -> Result<usize, Refusal>
     requires { (length markers.old ≡ 256) × (length users.old ≡ 256) × (length bases.old ≡ 257) }
     ensures { LaidOut table.now result markers.new users.new bases.new }
 {
-    let r = table::judge(table);
-    let Judged::Fine(events) = r else {
-        return r;
-    };
+    let events = table::judge(table)?;
     tally::tally(table, events, true, 1, markers);
     tally::tally(table, events, false, 0, users);
     sums(table, &markers[..], &users[..], bases);

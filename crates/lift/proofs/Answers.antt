@@ -12,8 +12,8 @@ use Rattle.model.specs.Across.{of_table, Refusal, Answer, run, unless, stuck, to
 use Rattle.model.proofs.Answers.{not_stuck, stuck_none, run_lifting}
 use Rattle.model.proofs.Firing.{runs_event}
 use Rattle.refusal.specs.declared.Refusal as declared
-use Rattle.refusal.specs.declared.Judged.{Judged}
-use Rattle.refusal.specs.declared.Judged.TheVariants.{Fine, Refused}
+use Rattle.refusal.specs.Answer.{Judged}
+use Rattle.std.specs.Prelude.{Ok, Err}
 use Rattle.refusal.specs.Answer.{refused_at, fitting, written}
 use Rattle.refusal.proofs.Chain.{then_fine, fitting_room, fitting_short, written_refused}
 use Rattle.table.specs.Walk.{judge_of}
@@ -51,23 +51,23 @@ pub lift_across : (s r : List ℕ) (room : ℕ) → lift_of s r room ≡ across_
 unfolding lift_of lift
 lift_across s r room = fitted_across s r (lifting_of (net_of s) r) room
 
-across_open : (s r : List ℕ) → across_of s r (Fine 0) ≡ Fine 0 → (too_long r ≡ none) × (unfolding_refused (net_of s) ≡ none)
+across_open : (s r : List ℕ) → across_of s r (Ok 0) ≡ Ok 0 → (too_long r ≡ none) × (unfolding_refused (net_of s) ≡ none)
 unfolding across_of
 across_open s r e =
-    let q = then_fine (judge_of s) (λ _. refused_or (too_long r) (refused_or (unfolding_refused (net_of s)) (Fine 0))) 0 e in
+    let q = then_fine (judge_of s) (λ _. refused_or (too_long r) (refused_or (unfolding_refused (net_of s)) (Ok 0))) 0 e in
     links_open (too_long r) (unfolding_refused (net_of s)) 0 0 q.2
 
-lift_is : (s r : List ℕ) → across_of s r (Fine 0) ≡ Fine 0 → lift (net_of s) r ≡ lifting_of (net_of s) r
+lift_is : (s r : List ℕ) → across_of s r (Ok 0) ≡ Ok 0 → lift (net_of s) r ≡ lifting_of (net_of s) r
 unfolding lift
 lift_is s r e = let o = across_open s r e in rw (o.0, o.1)
 
 -- a refused call leaves the output
-pub lift_refused : (s r out : List ℕ) {a : Judged} {x : declared.Refusal} → a ≡ Refused x → a ≡ lift_of s r (length out) → (a ≡ lift_of s r (length out)) × (out ≡ lifted_of s r out)
+pub lift_refused : (s r out : List ℕ) {a : Judged} {x : declared.Refusal} → a ≡ Err x → a ≡ lift_of s r (length out) → (a ≡ lift_of s r (length out)) × (out ≡ lifted_of s r out)
 unfolding lifted_of
 lift_refused s r out {a} {x} t e = (e, written_refused (lift_of s r (length out)) x (numbers_of (lift (net_of s) r)) out (sym e ∙ t))
 
 -- a call that comes to the run answers and writes as that does
-pub lift_went : (s r out out' : List ℕ) {a : Judged} → across_of s r (Fine 0) ≡ Fine 0 → across_of s r (fitted (lifting_of (net_of s) r) (length out)) ≡ fitted (lifting_of (net_of s) r) (length out)
+pub lift_went : (s r out out' : List ℕ) {a : Judged} → across_of s r (Ok 0) ≡ Ok 0 → across_of s r (fitted (lifting_of (net_of s) r) (length out)) ≡ fitted (lifting_of (net_of s) r) (length out)
     → a ≡ fitted (lifting_of (net_of s) r) (length out) → out' ≡ written a (numbers_of (lifting_of (net_of s) r)) out → (a ≡ lift_of s r (length out)) × (out' ≡ lifted_of s r out)
 unfolding lifted_of
 lift_went s r out out' {a} z o e w =
@@ -81,11 +81,11 @@ unfolding opening begun_at begin
 begun_opening n = refl
 
 module _ (s r : List ℕ) (answer : Judged) (l : List ℕ) (p : Plays (net_of s) (begin (net_of s)) r answer l) where
-  told : answer ≡ refused_or (too_long r) (refused_or (stuck of_table (replay (net_of s) 0 (opening (net_of s)) r)) (Fine (net_of s).conditions))
-  told = p.told ∙ ap (λ (t : State). refused_or (too_long r) (refused_or (stuck of_table (replay (net_of s) 0 t r)) (Fine (net_of s).conditions))) (begun_opening (net_of s))
+  told : answer ≡ refused_or (too_long r) (refused_or (stuck of_table (replay (net_of s) 0 (opening (net_of s)) r)) (Ok (net_of s).conditions))
+  told = p.told ∙ ap (λ (t : State). refused_or (too_long r) (refused_or (stuck of_table (replay (net_of s) 0 t r)) (Ok (net_of s).conditions))) (begun_opening (net_of s))
 
   -- a step that is stopped is what the lift answers
-  pub lift_stopped : (room : ℕ) {x : declared.Refusal} → across_of s r (Fine 0) ≡ Fine 0 → across_of s r (fitted (lifting_of (net_of s) r) room) ≡ fitted (lifting_of (net_of s) r) room → answer ≡ Refused x → answer ≡ lift_of s r room
+  pub lift_stopped : (room : ℕ) {x : declared.Refusal} → across_of s r (Ok 0) ≡ Ok 0 → across_of s r (fitted (lifting_of (net_of s) r) room) ≡ fitted (lifting_of (net_of s) r) room → answer ≡ Err x → answer ≡ lift_of s r room
   unfolding lifting
   lift_stopped room {x} z o t =
       let st = stuck of_table (replay (net_of s) 0 (opening (net_of s)) r) in
@@ -95,7 +95,7 @@ module _ (s r : List ℕ) (answer : Judged) (l : List ℕ) (p : Plays (net_of s)
       ∙ sym (fitted_link st a room) ∙ sym (lift_across s r room ∙ o)
 
   -- else it is a run
-  pub lift_runs : (x : ℕ) → answer ≡ Fine x → T (runs (net_of s) (begin (net_of s)) r)
+  pub lift_runs : (x : ℕ) → answer ≡ Ok x → T (runs (net_of s) (begin (net_of s)) r)
   unfolding opening
   lift_runs x t = not_stuck of_table (net_of s) 0 (opening (net_of s)) r (links_open (too_long r) (stuck of_table (replay (net_of s) 0 (opening (net_of s)) r)) (net_of s).conditions x (sym told ∙ t)).1
 
@@ -142,31 +142,31 @@ module _ (n : Net) (r : List ℕ) (t : T (runs n (begin n) r)) where
       pub lift_short : (room : ℕ) → room < length r → refused_at 16 (length r) ≡ fitted (lifting_of n r) room
       lift_short room h = sym (fits room ∙ fitting_short (length r) room h)
 
-      pub lift_fits : (room : ℕ) → length r ≤ room → Fine (length r) ≡ fitted (lifting_of n r) room
+      pub lift_fits : (room : ℕ) → length r ≤ room → Ok (length r) ≡ fitted (lifting_of n r) room
       lift_fits room h = sym (fits room ∙ fitting_room (length r) room h)
 
       pub lift_written : (later : List Slot) → Later n w.firsts.slots later → (ns ms : List ℕ) → numbers.Settled n w.firsts.slots ns → numbers.Settled n later ms → Tabled n
-          → (out out' : List ℕ) → out' ≡ numbers_for ms ns r ++ drop (length r) out → out' ≡ written (Fine (length r)) (numbers_of (lifting_of n r)) out
+          → (out out' : List ℕ) → out' ≡ numbers_for ms ns r ++ drop (length r) out → out' ≡ written (Ok (length r)) (numbers_of (lifting_of n r)) out
       lift_written later l ns ms g d limits out out' e =
           let same : numbers_of (lifting_of n r) ≡ numbers_for ms ns r = ap numbers_of goes ∙ lifted_is n r t w.firsts.slots told.firsts never limits later l ns ms g d in
           e ∙ ap (λ (k : ℕ). numbers_for ms ns r ++ drop k out) (sym (numbers_long ms ns r)) ∙ ap (λ (x : List ℕ). x ++ drop (length x) out) (sym same)
 
 -- ---- the table that was laid out
 
-module _ (s r : List ℕ) {a : Judged} {m : ℕ} (e : a ≡ prepared_of s (length r) (Fine (net_of s).events)) (t : a ≡ Fine m) where
+module _ (s r : List ℕ) {a : Judged} {m : ℕ} (e : a ≡ prepared_of s (length r) (Ok (net_of s).events)) (t : a ≡ Ok m) where
   pub laid_open : (own : Judged) → across_of s r own ≡ own
   laid_open own = (across_on s (length r) (net_of s).events e r refl own t).0
 
   pub laid_events : m ≡ (net_of s).events
-  laid_events = (across_on s (length r) (net_of s).events e r refl (Fine 0) t).1
+  laid_events = (across_on s (length r) (net_of s).events e r refl (Ok 0) t).1
 
-  pub laid_judged : judge_of s ≡ Fine m
-  laid_judged = let q = across_judged s (length r) (net_of s).events e t in q.1 ∙ ap Fine (events_are_all s q.0 q.1 ∙ sym laid_events)
+  pub laid_judged : judge_of s ≡ Ok m
+  laid_judged = let q = across_judged s (length r) (net_of s).events e t in q.1 ∙ ap Ok (events_are_all s q.0 q.1 ∙ sym laid_events)
 
   pub laid_few : m ≤ 256
   laid_few = omega (arith, laid_events, (tabled s m laid_judged).few_events)
 
-pub laid_refused : (s r out : List ℕ) {a : Judged} {x : declared.Refusal} → a ≡ prepared_of s (length r) (Fine (net_of s).events) → a ≡ Refused x → (a ≡ lift_of s r (length out)) × (out ≡ lifted_of s r out)
+pub laid_refused : (s r out : List ℕ) {a : Judged} {x : declared.Refusal} → a ≡ prepared_of s (length r) (Ok (net_of s).events) → a ≡ Err x → (a ≡ lift_of s r (length out)) × (out ≡ lifted_of s r out)
 laid_refused s r out e t =
     lift_refused s r out t
     (across_passed s (length r) (net_of s).events e r refl (fitted (lifting_of (net_of s) r) (length out)) t ∙ sym (lift_across s r (length out)))

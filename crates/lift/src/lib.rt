@@ -12,7 +12,7 @@ ghost use Rattle.lift.specs.Calls.{lift_of, lifted_of};
 ghost use Rattle.lift.specs.Played.{numbers_for, Writing, Liftable};
 
 use firsts::Repeat;
-use refusal::Judged;
+use refusal::Refusal;
 
 // The number of each step's event, to the front of a lent output: that of its first occurrence, and from then on the later one.
 fn write_lifted<'a>(later: &'a [u32], run: &'a [u16], numbers: &mut [u32], out: &mut [u16])
@@ -38,7 +38,7 @@ fn lift_played<'a>(
     offsets: &'a [usize],
     run: &'a [u16],
     out: &mut [u16],
-) -> Judged
+) -> Result<usize, Refusal>
     requires { Liftable table.now events markers.now users.now before.now offsets.now run.now }
     ensures answer { result ≡ fitted (lifting (net_of table.now) (own_or_earliest (net_of table.now)) 0 (opening (net_of table.now)) run.now) (length out.old) }
     ensures after { out.new ≡ written result (numbers_of (lifting (net_of table.now) (own_or_earliest (net_of table.now)) 0 (opening (net_of table.now)) run.now)) out.old }
@@ -61,11 +61,11 @@ fn lift_played<'a>(
     let mut later = [0u32; 256];
     places::settled_numbers(table, events, markers, before, own, &mut later);
     write_lifted(&later, run, &mut numbers, out);
-    Judged::Fine(run.len())
+    Ok(run.len())
 }
 
 // A run of the table lifted to one of its unfolding, which is written to a lent output.
-pub fn lift<'a>(table: &'a [u8], run: &'a [u16], out: &mut [u16]) -> Judged
+pub fn lift<'a>(table: &'a [u8], run: &'a [u16], out: &mut [u16]) -> Result<usize, Refusal>
     ensures answer { result ≡ lift_of table.now run.now (length out.old) }
     ensures after { out.new ≡ lifted_of table.now run.now out.old }
 {
@@ -73,24 +73,18 @@ pub fn lift<'a>(table: &'a [u8], run: &'a [u16], out: &mut [u16]) -> Judged
     let mut users = [0u32; 256];
     let mut bases = [0u32; 257];
     let mut before = [0u32; 257];
-    let laid = across::lay_out_run(
+    let events = across::lay_out_run(
         table,
         run.len(),
         &mut markers,
         &mut users,
         &mut bases,
         &mut before,
-    );
-    let Judged::Fine(events) = laid else {
-        return laid;
-    };
+    )?;
     let mut offsets = [0usize; 256];
     played::fill(table, events, &mut offsets);
     let start = played::start_held(table, events);
     let played = played::play(table, events, &offsets, run, start);
-    let answer = played.answer;
-    let Judged::Fine(_) = answer else {
-        return answer;
-    };
+    played.answer?;
     lift_played(table, events, &markers, &users, &before, &offsets, run, out)
 }

@@ -14,8 +14,8 @@ use Rattle.model.proofs.Answers.{unless_run, not_stuck}
 use Rattle.model.proofs.Limits.{unfolds_exactly, within_exactly}
 use Rattle.model.proofs.Demands.{lift_project, lift_lifts, lift_length, lift_most}
 use Rattle.refusal.specs.declared.Refusal.{Refusal}
-use Rattle.refusal.specs.declared.Judged.{Judged}
-use Rattle.refusal.specs.declared.Judged.TheVariants.{Fine, Refused}
+use Rattle.refusal.specs.Answer.{Judged}
+use Rattle.std.specs.Prelude.{Ok, Err}
 use Rattle.refusal.specs.Answer.{condition_of, and_then}
 use Rattle.refusal.proofs.Chain.{fitting_room}
 use Rattle.table.specs.Walk.{judge_of}
@@ -55,9 +55,9 @@ module _ (n : Net) (r w : List ℕ) (a : lift n r ≡ run w) where
       (unless_run (stuck of_table (replay n 0 (opening n) r)) (unless (again (repeated n (own_or_earliest n) 0 (opening n) r)) (run (lifted n (own_or_earliest n) (opening n) r))) w after_limits.1).0
 
 -- A run that lifts is opened; one that does not is refused as its lift is.
-module _ (s r : List ℕ) (n : ℕ) (j : judge_of s ≡ Fine n) where
+module _ (s r : List ℕ) (n : ℕ) (j : judge_of s ≡ Ok n) where
   module _ (w : List ℕ) (a : lift (net_of s) r ≡ run w) where
-    lift_fits : lift_of s r most_steps ≡ Fine (length w)
+    lift_fits : lift_of s r most_steps ≡ Ok (length w)
     unfolding lift_of fitted
     lift_fits = rw (j, a) (fitting_room (length w) most_steps (lift_most (net_of s) r w a))
 
@@ -65,12 +65,12 @@ module _ (s r : List ℕ) (n : ℕ) (j : judge_of s ≡ Fine n) where
     unfolding lifted_run
     numbers = rw a
 
-    end_fits : unfolded_replay_of s w most_unfolded ≡ Fine (basic (net_of s)).conditions
+    end_fits : unfolded_replay_of s w most_unfolded ≡ Ok (basic (net_of s)).conditions
     unfolding unfolded_replay_of ended
     end_fits =
         rw (j, lift_project (net_of s) r w a) (fitting_room (basic (net_of s)).conditions most_unfolded (few_unfolded (net_of s) r w a))
 
-    reach_fine : reach_of s r ≡ Fine (basic (net_of s)).conditions
+    reach_fine : reach_of s r ≡ Ok (basic (net_of s)).conditions
     unfolding reach_of
     reach_fine = rw (lift_fits, numbers, end_fits)
 
@@ -100,8 +100,8 @@ abbrev pub text_of_files : List ℕ → List ℕ → List ℕ
 text_of_files s r = rest_of (net_of s) (run_of r) (lifted_run s (run_of r)) (end_bytes s (run_of r)) (start_bytes s) Start
 
 module _ (s r : List ℕ) where
-  by_lift : (n count : ℕ) → judge_of s ≡ Fine n → (a : Answer) → lift (net_of s) (run_of r) ≡ a
-      → judged_lines (and_then (reach_of s (run_of r)) (λ _. Fine count)) (text_of_files s r) ≡ lifted_lines (net_of s) (run_of r) a
+  by_lift : (n count : ℕ) → judge_of s ≡ Ok n → (a : Answer) → lift (net_of s) (run_of r) ≡ a
+      → judged_lines (and_then (reach_of s (run_of r)) (λ _. Ok count)) (text_of_files s r) ≡ lifted_lines (net_of s) (run_of r) a
   unfolding judged_lines lifted_lines
   by_lift n count j (run w) e = rw (reach_fine s (run_of r) n j w e) (text_lines s (run_of r) n j w e)
   by_lift n count j (refusal x) e = rw (reach_refused s (run_of r) n j e) (ap (refused_line (number_of x) (place_of x)) (condition_told x))
@@ -112,17 +112,17 @@ module _ (s r : List ℕ) where
   whole_listing = go (files_of s r most_steps) refl
     where
       go : (a : Judged) → files_of s r most_steps ≡ a
-          → judged_lines (and_then a (λ count. and_then (reach_of s (run_of r)) (λ _. Fine count))) (text_of_files s r) ≡ judged_lines a (lifted_lines (net_of s) (run_of r) (lift (net_of s) (run_of r)))
-      go (Refused x) e = refl
-      go (Fine count) e = by_lift (files_fine s r count e).events count (files_fine s r count e).judged (lift (net_of s) (run_of r)) refl
+          → judged_lines (and_then a (λ count. and_then (reach_of s (run_of r)) (λ _. Ok count))) (text_of_files s r) ≡ judged_lines a (lifted_lines (net_of s) (run_of r) (lift (net_of s) (run_of r)))
+      go (Err x) e = refl
+      go (Ok count) e = by_lift (files_fine s r count e).events count (files_fine s r count e).judged (lift (net_of s) (run_of r)) refl
 
   -- Where opening is fine, the text from the start on is the listing.
-  pub listing_written : (count : ℕ) → open_of s r ≡ Fine count → text_of_files s r ≡ listing_of s r
+  pub listing_written : (count : ℕ) → open_of s r ≡ Ok count → text_of_files s r ≡ listing_of s r
   unfolding judged_lines
   listing_written count e = ap (λ (x : Judged). judged_lines x (text_of_files s r)) (sym e) ∙ whole_listing
 
   -- Where it is refused, the line of the refusal is.
-  pub listing_refused : (x : Refusal) → open_of s r ≡ Refused x → refused_line x.number x.place (condition_of x.by) ≡ listing_of s r
+  pub listing_refused : (x : Refusal) → open_of s r ≡ Err x → refused_line x.number x.place (condition_of x.by) ≡ listing_of s r
   unfolding judged_lines
   listing_refused x e = ap (λ (x : Judged). judged_lines x (text_of_files s r)) (sym e) ∙ whole_listing
 
@@ -130,12 +130,12 @@ module _ (s r : List ℕ) where
 
 module _ (s r : List ℕ) (o : Opened) (steps lifted offsets marking end : List ℕ) (opens : Opens s r o steps lifted offsets marking end) where
   -- Once the files are opened, what lent memory holds is written to the listing.
-  pub opened_listing : (count : ℕ) → o.answer ≡ Fine count
+  pub opened_listing : (count : ℕ) → o.answer ≡ Ok count
       → rest_of (net_of s) (take count steps) (take count lifted) (take o.unfolded end) (take o.conditions marking) Start ≡ listing_of s r
   opened_listing count e =
       let h = opens.holds count e in
       rw (h.run, h.lifts, h.ended, h.begun) (listing_written s r count (sym opens.told ∙ e))
 
   -- A refusal's line is the listing.
-  pub opened_refused : (x : Refusal) → o.answer ≡ Refused x → refused_line x.number x.place (condition_of x.by) ≡ listing_of s r
+  pub opened_refused : (x : Refusal) → o.answer ≡ Err x → refused_line x.number x.place (condition_of x.by) ≡ listing_of s r
   opened_refused x e = listing_refused s r x (sym opens.told ∙ e)

@@ -12,7 +12,7 @@ ghost use Rattle.lines.specs.Places.{step_from, more_from, next_at, goes_on, fir
 ghost use Rattle.lines.specs.Needs.{most_bytes, InRun, Steady, Ready};
 
 use listing::Piece;
-use refusal::Judged;
+use refusal::Refusal;
 
 // Where a listing stands: at the start's line, at the line of a step, at the begin of the unfolded end's line, at more of its list
 // from a condition on, at the newline after it, or past all.
@@ -183,7 +183,7 @@ pub fn write<'a>(
 }
 
 // The line of a refusal written to an output that has room for it.
-pub fn write_refused(answer: Judged, out: &mut [u8]) -> usize
+pub fn write_refused(answer: Result<usize, Refusal>, out: &mut [u8]) -> usize
     requires { most_bytes ≤ length out.old }
     ensures { Puts (refused_line (number_of answer) (place_of answer) (condition_of (by_of answer))) out.old result out.new }
 {

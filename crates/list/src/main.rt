@@ -5,7 +5,7 @@ ghost use Rattle.lines.specs.Needs.{Ready};
 ghost use Rattle.lines.specs.declared.Place.TheVariants.{Start};
 
 use lines::Place;
-use refusal::Judged;
+use refusal::Refusal;
 use std::io;
 
 // The listing of what was opened, written out from the start on.
@@ -51,7 +51,7 @@ fn list<'a>(rt: &impl Print, net: &'a [u8], run: &'a [u8]) -> io::Result<()> {
         &mut end,
     );
     let answer = opened.answer;
-    let Judged::Fine(count) = answer else {
+    let Ok(count) = answer else {
         return files::refuse(rt, answer);
     };
     let unfolded = opened.unfolded;

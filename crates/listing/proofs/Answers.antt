@@ -7,7 +7,7 @@ use lib.ListN.{length}
 use Rattle.model.specs.Lent.{marking}
 use Rattle.model.specs.Across.{most_unfolded}
 use Rattle.refusal.specs.declared.Refusal.{Refusal}
-use Rattle.refusal.specs.declared.Judged.TheVariants.{Fine, Refused}
+use Rattle.std.specs.Prelude.{Ok, Err}
 use Rattle.refusal.specs.Answer.{refused_at, need, fitting}
 use Rattle.table.specs.Walk.{judge_of}
 use Rattle.runs.specs.Runs.{run_kind, read_answer}
@@ -24,7 +24,7 @@ module _ (p : Piece) (l : List ℕ) (room : ℕ) where
   unfolding piece_of fitting need
   piece_short needed e few h = rw (← e, le-leb (length l) most_unfolded few, lt-leb needed room h)
 
-  pub piece_fits : (needed : ℕ) → needed ≡ length (text_of p l) → length l ≤ most_unfolded → needed ≤ room → piece_of p l room ≡ Fine needed
+  pub piece_fits : (needed : ℕ) → needed ≡ length (text_of p l) → length l ≤ most_unfolded → needed ≤ room → piece_of p l room ≡ Ok needed
   unfolding piece_of fitting need
   piece_fits needed e few h = rw (← e, le-leb (length l) most_unfolded few, le-leb needed room h)
 
@@ -39,14 +39,14 @@ module _ (s r : List ℕ) (room : ℕ) where
   unfolding files_of need
   net_long h = rw (lt-leb (length s) most_net_bytes h)
 
-  pub net_refused : (x : Refusal) → length s ≤ most_net_bytes → judge_of s ≡ Refused x → files_of s r room ≡ Refused x
+  pub net_refused : (x : Refusal) → length s ≤ most_net_bytes → judge_of s ≡ Err x → files_of s r room ≡ Err x
   unfolding files_of need
   net_refused x few e = rw (le-leb (length s) most_net_bytes few, e)
 
-  pub run_long : (n : ℕ) → length s ≤ most_net_bytes → judge_of s ≡ Fine n → most_run_bytes < length r → files_of s r room ≡ refused_at 19 0
+  pub run_long : (n : ℕ) → length s ≤ most_net_bytes → judge_of s ≡ Ok n → most_run_bytes < length r → files_of s r room ≡ refused_at 19 0
   unfolding files_of need
   run_long n few e h = rw (le-leb (length s) most_net_bytes few, e, lt-leb (length r) most_run_bytes h)
 
-  pub run_read : (n : ℕ) → length s ≤ most_net_bytes → judge_of s ≡ Fine n → length r ≤ most_run_bytes → files_of s r room ≡ read_answer run_kind r room
+  pub run_read : (n : ℕ) → length s ≤ most_net_bytes → judge_of s ≡ Ok n → length r ≤ most_run_bytes → files_of s r room ≡ read_answer run_kind r room
   unfolding files_of need
   run_read n few e h = rw (le-leb (length s) most_net_bytes few, e, le-leb (length r) most_run_bytes h)

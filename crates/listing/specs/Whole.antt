@@ -4,8 +4,8 @@ use Rattle.model.specs.Net.{Net, Marking, begin, fire}
 use Rattle.model.specs.Runs.{end}
 use Rattle.model.specs.Unfolding.{basic}
 use Rattle.model.specs.Across as across
-use Rattle.refusal.specs.declared.Judged.{Judged}
-use Rattle.refusal.specs.declared.Judged.TheVariants.{Fine, Refused}
+use Rattle.refusal.specs.Answer.{Judged}
+use Rattle.std.specs.Prelude.{Ok, Err}
 use Rattle.refusal.specs.Answer.{condition_of}
 use Rattle.table.specs.Decoded.{net_of}
 use Rattle.runs.specs.Runs.{run_of}
@@ -33,8 +33,8 @@ lifted_lines n r (across.refusal x) = refused_line (across.number_of x) (across.
 
 -- The refusal of a file, or else the lines (01, Nets to test with: Listing).
 unfoldable pub judged_lines : Judged → List ℕ → List ℕ
-judged_lines (Refused x) lines = refused_line x.number x.place (condition_of x.by)
-judged_lines (Fine steps) lines = lines
+judged_lines (Err x) lines = refused_line x.number x.place (condition_of x.by)
+judged_lines (Ok steps) lines = lines
 
 -- The listing of a table's file and a run's (01, Nets to test with: Listing).
 unfoldable pub listing_of : List ℕ → List ℕ → List ℕ

@@ -12,7 +12,7 @@ ghost use Rattle.spelling.specs.Puts.{farthest, Put};
 ghost use Rattle.listing.specs.Text.{space, newline, commas, listed, holding, end_words, start_line, step_line, by_words, refused_line};
 ghost use Rattle.listing.specs.Calls.{held_in, first_in, next_of, first_piece, text_of, piece_of, files_of};
 
-use refusal::{By, Judged};
+use refusal::{Condition, Refusal};
 
 // What can be written at once: the line of the start, of a step, or of a refusal; the begin of the line of the unfolded end; or
 // more of a list from a condition on.
@@ -22,7 +22,7 @@ pub enum Piece {
     Step(usize, usize, usize),
     End,
     More(usize),
-    Refused(usize, usize, By),
+    Refused(usize, usize, Option<Condition>),
 }
 
 // The most bytes of a table's file.
@@ -153,26 +153,27 @@ fn put_end(out: &mut [u8], state: &[u8]) -> usize
 // The words for a condition that stopped a step, by its number.
 fn put_condition(out: &mut [u8], at: usize, b: usize) -> usize
     requires { at + 24 ≤ farthest }
-    ensures { Put out.old at (by_words (some b)) result out.new }
+    ensures named { Put out.old at (by_words (some b)) result out.new }
+    ensures near { result ≤ at + 24 }
 {
     let from = spelling::put_text(out, at, b" by ");
     spelling::put_number(out, from, b)
 }
 
 // The words for what stopped a step, none where nothing did.
-fn put_by(out: &mut [u8], at: usize, by: By) -> usize
+fn put_by(out: &mut [u8], at: usize, by: Option<Condition>) -> usize
     requires { at + 24 ≤ farthest }
-    ensures { Put out.old at (by_words (condition_of by)) result out.new }
+    ensures named { Put out.old at (by_words (condition_of by)) result out.new }
+    ensures near { result ≤ at + 24 }
 {
     match by {
-        By::Nothing => at,
-        By::Table(b) => put_condition(out, at, b.0 as usize),
-        By::Unfolded(b) => put_condition(out, at, b.0 as usize),
+        None => at,
+        Some(condition) => put_condition(out, at, condition.number() as usize),
     }
 }
 
 // The line of a refusal.
-fn put_refused(out: &mut [u8], number: usize, place: usize, by: By) -> usize
+fn put_refused(out: &mut [u8], number: usize, place: usize, by: Option<Condition>) -> usize
     ensures { Put out.old 0 (refused_line number place (condition_of by)) result out.new }
 {
     let first = spelling::put_text(out, 0, b"refused ");
@@ -198,7 +199,7 @@ fn put_piece(out: &mut [u8], piece: Piece, state: &[u8]) -> usize
 }
 
 // A piece of the listing of a marking written to a lent output.
-pub fn write(piece: Piece, marking: &[u8], out: &mut [u8]) -> Judged
+pub fn write(piece: Piece, marking: &[u8], out: &mut [u8]) -> Result<usize, Refusal>
     ensures answer { result ≡ piece_of piece marking.now (length out.old) }
     ensures after { out.new ≡ written result (text_of piece marking.now) out.old }
 {
@@ -211,21 +212,18 @@ pub fn write(piece: Piece, marking: &[u8], out: &mut [u8]) -> Judged
         return refusal::refused(16, needed);
     }
     put_piece(out, piece, marking);
-    Judged::Fine(needed)
+    Ok(needed)
 }
 
 // The bytes of the two files judged in order, and the run read into a lent one; fine: the number of its steps.
-pub fn read_files(net: &[u8], run: &[u8], steps: &mut [u16]) -> Judged
+pub fn read_files(net: &[u8], run: &[u8], steps: &mut [u16]) -> Result<usize, Refusal>
     ensures answer { result ≡ files_of net.now run.now (length steps.old) }
     ensures after { steps.new ≡ written result (run_of run.now) steps.old }
 {
     if MOST_NET_BYTES < net.len() {
         return refusal::refused(19, 0);
     }
-    let judged = table::judge(net);
-    let Judged::Fine(_) = judged else {
-        return judged;
-    };
+    table::judge(net)?;
     if MOST_RUN_BYTES < run.len() {
         return refusal::refused(19, 0);
     }

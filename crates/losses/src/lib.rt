@@ -10,7 +10,7 @@ ghost use Rattle.losses.specs.Losses.{lossy};
 ghost use Rattle.losses.specs.Calls.{lossy_of, lossy_into};
 ghost use Rattle.losses.specs.Tests.{kept_at, steady_at, spent_at, recurs_at, Known};
 
-use refusal::Judged;
+use refusal::Refusal;
 
 // Whether condition b is persistent or stands in a list.
 fn is_kept<'a>(table: &'a [u8], list: &'a [u8], b: usize) -> bool
@@ -116,14 +116,11 @@ fn write_lossy<'a>(table: &'a [u8], events: usize, once: &'a [u8], puts: &'a [u3
 }
 
 // The lossy events of a table, one byte for each event; fine: how many events.
-pub fn lossy(table: &[u8], out: &mut [u8]) -> Judged
+pub fn lossy(table: &[u8], out: &mut [u8]) -> Result<usize, Refusal>
     ensures answer { result ≡ lossy_of table.now (length out.old) }
     ensures after { out.new ≡ lossy_into table.now out.old }
 {
-    let r = table::judge(table);
-    let Judged::Fine(events) = r else {
-        return r;
-    };
+    let events = table::judge(table)?;
     if out.len() < events {
         return refusal::refused(16, events);
     }
@@ -133,5 +130,5 @@ pub fn lossy(table: &[u8], out: &mut [u8]) -> Judged
     repeats::once_only(table, events, &counts, &mut once);
     tally::tally(table, events, true, 0, &mut counts);
     write_lossy(table, events, &once, &counts, out);
-    Judged::Fine(events)
+    Ok(events)
 }

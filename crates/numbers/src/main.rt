@@ -4,14 +4,14 @@
 #![tactic(auto)]
 
 use conditions::ConditionOrigin;
-use refusal::{Judged, UnfoldedCondition, UnfoldedEvent};
+use refusal::{Refusal, UnfoldedCondition, UnfoldedEvent};
 use std::io;
 
 // Whether an answer is this number.
-fn is_number(r: Judged, j: usize) -> bool {
+fn is_number(r: Result<usize, Refusal>, j: usize) -> bool {
     match r {
-        Judged::Fine(k) => k == j,
-        Judged::Refused(_) => false,
+        Ok(k) => k == j,
+        Err(_) => false,
     }
 }
 
@@ -109,8 +109,8 @@ fn net(rt: &impl Print, letter: u8, skip: u8, table: &[u8]) -> io::Result<()> {
     rt.write_all(b": ")?;
     let r = unfolding::condition_count(table);
     match r {
-        Judged::Fine(n) => unfolded(rt, table, skip, n),
-        Judged::Refused(refusal) => {
+        Ok(n) => unfolded(rt, table, skip, n),
+        Err(refusal) => {
             rt.write_all(b"refused ")?;
             rt.print(refusal.number as u64)?;
             rt.write_all(b" at ")?;

@@ -14,8 +14,8 @@ use Rattle.model.specs.Across.{run, lift, project, most_steps, most_unfolded}
 use Rattle.model.proofs.Lent.{length_bytes, bytes_at, bytes_are}
 use Rattle.model.proofs.Demands.{lift_lifts, lift_length}
 use Rattle.refusal.specs.declared.Refusal.{Refusal}
-use Rattle.refusal.specs.declared.Judged.{Judged}
-use Rattle.refusal.specs.declared.Judged.TheVariants.{Fine, Refused}
+use Rattle.refusal.specs.Answer.{Judged}
+use Rattle.std.specs.Prelude.{Ok, Err}
 use Rattle.refusal.specs.Answer.{need, and_then, written}
 use Rattle.refusal.proofs.Chain.{passed_up, goes_on, never_both, need_fine, then_fine, written_front}
 use Rattle.records.specs.Records.{conditions}
@@ -40,11 +40,11 @@ use Rattle.opening.specs.Opening.{lifted_run, start_bytes, end_bytes, reach_of, 
 -- What fine files have told: the table is judged, and the run has so many steps.
 pub record Read (s r : List ℕ) (count : ℕ) : Type 0 where
   pub events : ℕ
-  pub judged : judge_of s ≡ Fine events
+  pub judged : judge_of s ≡ Ok events
   pub counted : count ≡ length (run_of r)
   pub short : count ≤ most_steps
 
-pub files_fine : (s r : List ℕ) (count : ℕ) → files_of s r most_steps ≡ Fine count → Read s r count
+pub files_fine : (s r : List ℕ) (count : ℕ) → files_of s r most_steps ≡ Ok count → Read s r count
 unfolding files_of
 files_fine s r count e =
     let a = (need_fine (leb (length s) most_net_bytes) 19 0 count (and_then (judge_of s) (λ n. need (leb (length r) most_run_bytes) 19 0 (read_answer run_kind r most_steps))) e).1 in
@@ -54,13 +54,13 @@ files_fine s r count e =
     record { events = n; judged = j; counted = sym (length_run x.0); short = x.1 }
 
 -- What was written stands at the front.
-front : (answer : Judged) (k count : ℕ) (new old after : List ℕ) → answer ≡ Fine k → after ≡ written answer new old → count ≡ length new → take count after ≡ new
+front : (answer : Judged) (k count : ℕ) (new old after : List ℕ) → answer ≡ Ok k → after ≡ written answer new old → count ≡ length new → take count after ≡ new
 front answer k count new old after e is size =
     ap (take count) is ∙ ap (λ (x : ℕ). take x (written answer new old)) size ∙ written_front answer k new old e
 
 -- An answer is fine with one number only.
-same_fine : (n m : ℕ) (answer : Judged) → answer ≡ Fine n → answer ≡ Fine m → n ≡ m
-same_fine n m answer e f = let x : Fine n ≡ Fine m = sym e ∙ f in cc
+same_fine : (n m : ℕ) (answer : Judged) → answer ≡ Ok n → answer ≡ Ok m → n ≡ m
+same_fine n m answer e f = let x : Ok n ≡ Ok m = sym e ∙ f in cc
 
 -- ---- the lift and its end
 
@@ -73,7 +73,7 @@ pub record Lifted (s r : List ℕ) (count : ℕ) : Type 0 where
   pub same : count ≡ length r
   pub short : count ≤ most_steps
 
-pub lift_fine : (s r : List ℕ) (count : ℕ) → lift_of s r most_steps ≡ Fine count → Lifted s r count
+pub lift_fine : (s r : List ℕ) (count : ℕ) → lift_of s r most_steps ≡ Ok count → Lifted s r count
 unfolding lift_of lifted_run
 lift_fine s r count e =
     let (n, j, f) = then_fine (judge_of s) (λ _. fitted (lift (net_of s) r) most_steps) count e in
@@ -82,14 +82,14 @@ lift_fine s r count e =
     let long = lift_length (net_of s) r w (lift_lifts (net_of s) r w a) in
     record { numbers = w; lifts = a; are = is; counted = size ∙ ap length is; same = size ∙ long; short = omega (arith, size) }
 
-replay_sizes : (s w : List ℕ) (room u : ℕ) → unfolded_replay_of s w room ≡ Fine u → (u ≡ (basic (net_of s)).conditions) × (u ≤ room)
+replay_sizes : (s w : List ℕ) (room u : ℕ) → unfolded_replay_of s w room ≡ Ok u → (u ≡ (basic (net_of s)).conditions) × (u ≤ room)
 unfolding unfolded_replay_of
 replay_sizes s w room u e =
     let (n, j, f) = then_fine (judge_of s) (λ _. ended (project (net_of s) w) (basic (net_of s)).conditions room) u e in
     let x = ended_fine (project (net_of s) w) (basic (net_of s)).conditions room u f in
     (x.2, omega (arith, x.2, x.3))
 
-replay_front : (s r was out : List ℕ) (u : ℕ) → length was ≡ most_unfolded → unfolded_replay_of s (lifted_run s r) most_unfolded ≡ Fine u
+replay_front : (s r was out : List ℕ) (u : ℕ) → length was ≡ most_unfolded → unfolded_replay_of s (lifted_run s r) most_unfolded ≡ Ok u
     → out ≡ unfolded_replayed_of s (lifted_run s r) was → take u out ≡ end_bytes s r
 unfolding unfolded_replayed_of end_bytes
 replay_front s r was out u roomy e is =
@@ -103,7 +103,7 @@ module _ (s r old lifted : List ℕ) (answer : Judged) (many : length old ≡ mo
   lift_told = told ∙ ap (lift_of s r) many
 
   -- The lift was refused.
-  pub reach_refused : {x : Refusal} → answer ≡ Refused x → (out : List ℕ) → Reaches s r answer lifted out
+  pub reach_refused : {x : Refusal} → answer ≡ Err x → (out : List ℕ) → Reaches s r answer lifted out
   unfolding reach_of
   reach_refused e out = record {
     told = passed_up (λ _. unfolded_replay_of s (lifted_run s r) most_unfolded) lift_told e;
@@ -112,7 +112,7 @@ module _ (s r old lifted : List ℕ) (answer : Judged) (many : length old ≡ mo
     ended = λ u f. never_both (sym f ∙ e);
   }
 
-  module _ (count : ℕ) (fine : answer ≡ Fine count) where
+  module _ (count : ℕ) (fine : answer ≡ Ok count) where
     lifted_fine : Lifted s r count
     lifted_fine = lift_fine s r count (sym lift_told ∙ fine)
 
@@ -141,15 +141,15 @@ module _ (s r old lifted : List ℕ) (answer : Judged) (many : length old ≡ mo
 
 -- ---- the index and the start
 
-pub set_up_refused : (s : List ℕ) (answer : Judged) (offsets marking : List ℕ) {x : Refusal} → answer ≡ judge_of s → answer ≡ Refused x → SetsUp s answer offsets marking
+pub set_up_refused : (s : List ℕ) (answer : Judged) (offsets marking : List ℕ) {x : Refusal} → answer ≡ judge_of s → answer ≡ Err x → SetsUp s answer offsets marking
 set_up_refused s answer offsets marking told e = record { told = told; indexed = λ n f. never_both (sym f ∙ e); begun = λ n f. never_both (sym f ∙ e) }
 
-pub set_up_done : (s : List ℕ) (n : ℕ) (offsets marking : List ℕ) → judge_of s ≡ Fine n → Indexed s n offsets → marking ≡ bytes 256 (begin (net_of s))
-    → SetsUp s (Fine n) offsets marking
+pub set_up_done : (s : List ℕ) (n : ℕ) (offsets marking : List ℕ) → judge_of s ≡ Ok n → Indexed s n offsets → marking ≡ bytes 256 (begin (net_of s))
+    → SetsUp s (Ok n) offsets marking
 set_up_done s n offsets marking j filled begun =
-    record { told = sym j; indexed = λ m f. subst (λ (k : ℕ). Indexed s k offsets) (same_fine n m (Fine n) refl f) filled; begun = λ m f. begun }
+    record { told = sym j; indexed = λ m f. subst (λ (k : ℕ). Indexed s k offsets) (same_fine n m (Ok n) refl f) filled; begun = λ m f. begun }
 
-begun_front : (s marking : List ℕ) (n c : ℕ) → judge_of s ≡ Fine n → c ≡ (net_of s).conditions → marking ≡ bytes 256 (begin (net_of s)) → take c marking ≡ start_bytes s
+begun_front : (s marking : List ℕ) (n c : ℕ) → judge_of s ≡ Ok n → c ≡ (net_of s).conditions → marking ≡ bytes 256 (begin (net_of s)) → take c marking ≡ start_bytes s
 unfolding start_bytes
 begun_front s marking n c j e is =
     let few : c ≤ 256 = omega (arith, e, (tabled s n j).few_conditions) in
@@ -161,22 +161,22 @@ begun_front s marking n c j e is =
 
 -- ---- all of it
 
-opens_refused : (s r : List ℕ) (o : Opened) (steps lifted offsets marking end : List ℕ) {x : Refusal} → o.answer ≡ open_of s r → o.answer ≡ Refused x
+opens_refused : (s r : List ℕ) (o : Opened) (steps lifted offsets marking end : List ℕ) {x : Refusal} → o.answer ≡ open_of s r → o.answer ≡ Err x
     → Opens s r o steps lifted offsets marking end
 opens_refused s r o steps lifted offsets marking end told e = record { told = told; holds = λ count f. never_both (sym f ∙ e) }
 
 module _ (s r old steps : List ℕ) (read : Judged) (many : length old ≡ most_steps) (told : read ≡ files_of s r (length old)) (left : steps ≡ written read (run_of r) old) where
   abbrev rest : ℕ → Judged
-  rest count = and_then (reach_of s (run_of r)) (λ _. Fine count)
+  rest count = and_then (reach_of s (run_of r)) (λ _. Ok count)
 
   read_told : read ≡ files_of s r most_steps
   read_told = told ∙ ap (files_of s r) many
 
-  pub files_refused : {x : Refusal} → read ≡ Refused x → (o : Opened) → o.answer ≡ read → (lifted offsets marking end : List ℕ) → Opens s r o steps lifted offsets marking end
+  pub files_refused : {x : Refusal} → read ≡ Err x → (o : Opened) → o.answer ≡ read → (lifted offsets marking end : List ℕ) → Opens s r o steps lifted offsets marking end
   unfolding open_of
   files_refused e o is lifted offsets marking end = opens_refused s r o steps lifted offsets marking end (is ∙ passed_up rest read_told e) (is ∙ e)
 
-  module _ (count : ℕ) (fine : read ≡ Fine count) where
+  module _ (count : ℕ) (fine : read ≡ Ok count) where
     files : Read s r count
     files = files_fine s r count (sym read_told ∙ fine)
 
@@ -194,15 +194,15 @@ module _ (s r old steps : List ℕ) (read : Judged) (many : length old ≡ most_
       reach_run : Reaches s (run_of r) reached lifted end
       reach_run = subst (λ (x : List ℕ). Reaches s x reached lifted end) (run_front (count - 0) (omega arith)) reach
 
-      pub run_refused : {x : Refusal} → reached ≡ Refused x → (o : Opened) → o.answer ≡ reached → (offsets marking : List ℕ) → Opens s r o steps lifted offsets marking end
+      pub run_refused : {x : Refusal} → reached ≡ Err x → (o : Opened) → o.answer ≡ reached → (offsets marking : List ℕ) → Opens s r o steps lifted offsets marking end
       run_refused e o is offsets marking =
-          opens_refused s r o steps lifted offsets marking end (is ∙ passed_up (λ _. Fine count) reach_run.told e ∙ sym goes) (is ∙ e)
+          opens_refused s r o steps lifted offsets marking end (is ∙ passed_up (λ _. Ok count) reach_run.told e ∙ sym goes) (is ∙ e)
 
       module _ (judged : Judged) (offsets marking : List ℕ) (set : SetsUp s judged offsets marking) where
-        pub never_refused : {A : Type 0} {x : Refusal} → judged ≡ Refused x → A
+        pub never_refused : {A : Type 0} {x : Refusal} → judged ≡ Err x → A
         never_refused e = never_both (sym files.judged ∙ sym set.told ∙ e)
 
-        pub opened : (o : Opened) → o.answer ≡ Fine count → reached ≡ Fine o.unfolded → judged ≡ Fine o.events → o.conditions ≡ conditions s
+        pub opened : (o : Opened) → o.answer ≡ Ok count → reached ≡ Ok o.unfolded → judged ≡ Ok o.events → o.conditions ≡ conditions s
             → Opens s r o steps lifted offsets marking end
         opened o answered reaches sets are =
             let j = sym set.told ∙ sets in
@@ -220,7 +220,7 @@ module _ (s r old steps : List ℕ) (read : Judged) (many : length old ≡ most_
               ended = reach_run.ended o.unfolded reaches;
             } in
             record {
-              told = answered ∙ sym (goes ∙ goes_on (λ _. Fine count) reach_run.told reaches);
+              told = answered ∙ sym (goes ∙ goes_on (λ _. Ok count) reach_run.told reaches);
               holds = λ k f.
                   subst (λ (x : ℕ). Holds s r x o.events o.conditions o.unfolded steps lifted offsets marking end) (same_fine count k o.answer answered f) held;
             }

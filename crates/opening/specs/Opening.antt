@@ -5,8 +5,8 @@ use Rattle.model.specs.Lent.{bytes}
 use Rattle.model.specs.Runs.{end}
 use Rattle.model.specs.Unfolding.{basic}
 use Rattle.model.specs.Across.{lift, most_steps, most_unfolded}
-use Rattle.refusal.specs.declared.Judged.{Judged}
-use Rattle.refusal.specs.declared.Judged.TheVariants.{Fine}
+use Rattle.refusal.specs.Answer.{Judged}
+use Rattle.std.specs.Prelude.{Ok}
 use Rattle.refusal.specs.Answer.{and_then}
 use Rattle.table.specs.Walk.{judge_of}
 use Rattle.table.specs.Decoded.{net_of}
@@ -37,7 +37,7 @@ reach_of s r = and_then (lift_of s r most_steps) (λ _. unfolded_replay_of s (li
 
 -- The two files opened: the refusals of the files, then those of the run; fine: the number of steps (01, Nets to test with: Listing).
 unfoldable pub open_of : List ℕ → List ℕ → Judged
-open_of s r = and_then (files_of s r most_steps) (λ steps. and_then (reach_of s (run_of r)) (λ _. Fine steps))
+open_of s r = and_then (files_of s r most_steps) (λ steps. and_then (reach_of s (run_of r)) (λ _. Ok steps))
 
 -- Lent memory before the files are opened: long enough, and nothing holds.
 pub record Empty (steps lifted offsets marking end : List ℕ) : Type 0 where
@@ -50,19 +50,19 @@ pub record Empty (steps lifted offsets marking end : List ℕ) : Type 0 where
 -- A run lifted into lent memory, and the end of its lift beside it.
 pub record Reaches (s r : List ℕ) (answer : Judged) (lifted end : List ℕ) : Type 0 where
   pub told : answer ≡ reach_of s r
-  pub few : (unfolded : ℕ) → answer ≡ Fine unfolded → unfolded ≤ most_unfolded
-  pub lifts : (unfolded : ℕ) → answer ≡ Fine unfolded → take (length r) lifted ≡ lifted_run s r
-  pub ended : (unfolded : ℕ) → answer ≡ Fine unfolded → take unfolded end ≡ end_bytes s r
+  pub few : (unfolded : ℕ) → answer ≡ Ok unfolded → unfolded ≤ most_unfolded
+  pub lifts : (unfolded : ℕ) → answer ≡ Ok unfolded → take (length r) lifted ≡ lifted_run s r
+  pub ended : (unfolded : ℕ) → answer ≡ Ok unfolded → take unfolded end ≡ end_bytes s r
 
 -- The index of a table and the marking at its start in lent memory.
 pub record SetsUp (s : List ℕ) (answer : Judged) (offsets marking : List ℕ) : Type 0 where
   pub told : answer ≡ judge_of s
-  pub indexed : (events : ℕ) → answer ≡ Fine events → Indexed s events offsets
-  pub begun : (events : ℕ) → answer ≡ Fine events → marking ≡ bytes 256 (begin (net_of s))
+  pub indexed : (events : ℕ) → answer ≡ Ok events → Indexed s events offsets
+  pub begun : (events : ℕ) → answer ≡ Ok events → marking ≡ bytes 256 (begin (net_of s))
 
 -- What lent memory holds once the files are opened, for a run of so many steps.
 pub record Holds (s r : List ℕ) (count events conditions unfolded : ℕ) (steps lifted offsets marking end : List ℕ) : Type 0 where
-  pub judged : judge_of s ≡ Fine events
+  pub judged : judge_of s ≡ Ok events
   pub indexed : Indexed s events offsets
   pub short : count ≤ most_steps
   pub run : take count steps ≡ run_of r
@@ -75,4 +75,4 @@ pub record Holds (s r : List ℕ) (count events conditions unfolded : ℕ) (step
 -- The answer to two files, and what lent memory holds where they are not refused.
 pub record Opens (s r : List ℕ) (o : Opened) (steps lifted offsets marking end : List ℕ) : Type 0 where
   pub told : o.answer ≡ open_of s r
-  pub holds : (count : ℕ) → o.answer ≡ Fine count → Holds s r count o.events o.conditions o.unfolded steps lifted offsets marking end
+  pub holds : (count : ℕ) → o.answer ≡ Ok count → Holds s r count o.events o.conditions o.unfolded steps lifted offsets marking end

@@ -6,45 +6,39 @@ ghost use Rattle.std.specs.Prelude.{◌≡◌, ◌≤◌, length, replicate};
 ghost use Rattle.model.specs.Across.{most_steps, most_unfolded};
 ghost use Rattle.opening.specs.Opening.{Empty, Reaches, SetsUp, Opens};
 
-use refusal::Judged;
+use refusal::Refusal;
 
 // What the two files are opened to: the number of steps or the refusal, then how many events, conditions and unfolded conditions.
 #[derive(Clone, Copy)]
 pub struct Opened {
-    pub answer: Judged,
+    pub answer: Result<usize, Refusal>,
     pub events: usize,
     pub conditions: usize,
     pub unfolded: usize,
 }
 
 // A run lifted, and the unfolded marking that its lift ends in; fine: the number of unfolded conditions.
-fn reach_end<'a>(table: &'a [u8], run: &'a [u16], lifted: &mut [u16], end: &mut [u8]) -> Judged
+fn reach_end<'a>(table: &'a [u8], run: &'a [u16], lifted: &mut [u16], end: &mut [u8]) -> Result<usize, Refusal>
     requires { (length lifted.old ≡ most_steps) × (length end.old ≡ most_unfolded) }
     ensures { Reaches table.now run.now result lifted.new end.new }
 {
-    let answer = lift::lift(table, run, lifted);
-    let Judged::Fine(count) = answer else {
-        return answer;
-    };
+    let count = lift::lift(table, run, lifted)?;
     ends::unfolded_replay(table, &lifted[0..count], end)
 }
 
 // The index of a table's events filled, and its start put into bytes that are all 0; fine: the number of events.
-fn set_up(table: &[u8], offsets: &mut [usize], marking: &mut [u8]) -> Judged
+fn set_up(table: &[u8], offsets: &mut [usize], marking: &mut [u8]) -> Result<usize, Refusal>
     requires { (256 ≤ length offsets.old) × (marking.old ≡ replicate 256 0) }
     ensures { SetsUp table.now result offsets.new marking.new }
 {
-    let judged = table::judge(table);
-    let Judged::Fine(events) = judged else {
-        return judged;
-    };
+    let events = table::judge(table)?;
     played::fill(table, events, offsets);
     played::start(table, events, marking);
-    Judged::Fine(events)
+    Ok(events)
 }
 
 // A refusal, with nothing opened.
-fn refused(answer: Judged) -> Opened
+fn refused(answer: Result<usize, Refusal>) -> Opened
     ensures { result.answer ≡ answer }
 {
     Opened {
@@ -69,20 +63,20 @@ pub fn open_files<'a>(
     ensures { Opens net.now run.now result steps.new lifted.new offsets.new marking.new end.new }
 {
     let read = listing::read_files(net, run, steps);
-    let Judged::Fine(count) = read else {
+    let Ok(count) = read else {
         return refused(read);
     };
     let reached = reach_end(net, &steps[0..count], lifted, end);
-    let Judged::Fine(unfolded) = reached else {
+    let Ok(unfolded) = reached else {
         return refused(reached);
     };
     let judged = set_up(net, offsets, marking);
-    let Judged::Fine(events) = judged else {
+    let Ok(events) = judged else {
         return refused(judged);
     };
     let conditions = records::conditions(net) as usize;
     Opened {
-        answer: Judged::Fine(count),
+        answer: Ok(count),
         events,
         conditions,
         unfolded,

@@ -13,8 +13,8 @@ use Rattle.model.specs.Unfolding.{UnfoldedCondition, basic}
 use Rattle.model.specs.Numbering.{condition_count, event_count, condition_number, number}
 use Rattle.model.specs.Across.{Refusal, most_unfolded, within, lowest_idle, idle_or_over, unfolding_refused}
 use Rattle.model.proofs.Counts.{count_conditions}
-use Rattle.refusal.specs.declared.Judged.{Judged}
-use Rattle.refusal.specs.declared.Judged.TheVariants.{Fine, Refused}
+use Rattle.refusal.specs.Answer.{Judged}
+use Rattle.std.specs.Prelude.{Ok, Err}
 use Rattle.refusal.specs.Answer.{need, and_then, value_of}
 use Rattle.table.specs.Walk.{judge_of}
 use Rattle.table.specs.Decoded.{net_of}
@@ -41,19 +41,19 @@ limits n q =
 
 -- the value of a call's own answer counts only where the table is unfolded
 small_if : (j : Judged) (o : Option Refusal) (own : Judged) → (o ≡ none → value_of own < 65536) → value_of (and_then j (λ _. refused_or o own)) < 65536
-small_if (Refused x) o own h = omega arith
-small_if (Fine n) none own h = h refl
-small_if (Fine n) (some x) own h = omega arith
+small_if (Err x) o own h = omega arith
+small_if (Ok n) none own h = h refl
+small_if (Ok n) (some x) own h = omega arith
 
 small : (s : List ℕ) (own : Judged) → (unfolding_refused (net_of s) ≡ none → value_of own < 65536) → value_of (unfolding_of s own) < 65536
 unfolding unfolding_of
 small s own h = small_if (judge_of s) (unfolding_refused (net_of s)) own h
 
-below : (k most : ℕ) → most ≤ 65535 → value_of (need (ltb k most) 10 0 (Fine k)) < 65536
+below : (k most : ℕ) → most ≤ 65535 → value_of (need (ltb k most) 10 0 (Ok k)) < 65536
 unfolding need
 below k most h = go (ltb k most) refl
   where
-    go : (b : Bool) → ltb k most ≡ b → value_of (need b 10 0 (Fine k)) < 65536
+    go : (b : Bool) → ltb k most ≡ b → value_of (need b 10 0 (Ok k)) < 65536
     go true e = let l = ltb-true k most e in omega arith
     go false e = omega arith
 

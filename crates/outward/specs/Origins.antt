@@ -1,7 +1,7 @@
 -- What stands behind an unfolded condition, told outside by single values.
 use Rattle.std.specs.Prelude.{ℕ, Bool, true, false}
-use Rattle.refusal.specs.declared.Judged.{Judged}
-use Rattle.refusal.specs.declared.Judged.TheVariants as judged
+use Rattle.refusal.specs.Answer.{Judged}
+use Rattle.std.specs.Prelude.{Ok, Err}
 use Rattle.unfolding.specs.Markers.{meant}
 use Rattle.conditions.specs.declared.ConditionOrigin.{ConditionOrigin}
 use Rattle.conditions.specs.declared.ConditionOrigin.TheVariants as show
@@ -9,9 +9,9 @@ use Rattle.outward.specs.Words.{word_of}
 
 -- An origin as an answer that carries nothing, or its refusal (01, Refusal numbers).
 abbrev pub origin_answer : ConditionOrigin → Judged
-origin_answer (show.Ordinary b) = judged.Fine 0
-origin_answer (show.Copy b m u) = judged.Fine 0
-origin_answer (show.Refused refusal) = judged.Refused refusal
+origin_answer (show.Ordinary b) = Ok 0
+origin_answer (show.Copy b m u) = Ok 0
+origin_answer (show.Refused refusal) = Err refusal
 
 -- The condition behind, else what was there (01, Unfolding).
 abbrev pub condition_or : ConditionOrigin → ℕ → ℕ

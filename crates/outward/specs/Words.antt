@@ -4,7 +4,7 @@ use Rattle.lists.specs.Lists.{count}
 use Rattle.model.specs.Runs.{Marker, at_start, by_event}
 use Rattle.refusal.specs.declared.Marker as declared
 use Rattle.refusal.specs.declared.Marker.TheVariants.{Start, ByEvent}
-use Rattle.refusal.specs.declared.Judged.{Judged}
+use Rattle.refusal.specs.Answer.{Judged}
 use Rattle.refusal.specs.Answer.{and_then, fitting, written}
 use Rattle.events.specs.declared.Colour.{Colour}
 use Rattle.events.specs.declared.Pick.{Pick}

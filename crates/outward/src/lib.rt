@@ -11,7 +11,7 @@ ghost use Rattle.outward.specs.Words.{start_word, word_of, marker_of, colour_for
 
 use conditions::ConditionOrigin;
 use events::{Colour, EventOrigin, Pick};
-use refusal::{By, Judged, Marker, TableCondition, TableEvent};
+use refusal::{Condition, Marker, Refusal, TableCondition, TableEvent};
 
 // The number that stands for the start.
 const START: u32 = 0xFFFFFFFF;
@@ -26,18 +26,18 @@ pub struct Answer {
 }
 
 // The number of the condition that stopped a step, 0 where none did.
-fn by_number(by: By) -> u64
+fn by_number(by: Option<Condition>) -> u64
     ensures { result ≡ by_number by }
 {
     match by {
-        By::Nothing => 0,
-        By::Table(b) => b.0 as u64,
-        By::Unfolded(b) => b.0 as u64,
+        None => 0,
+        Some(Condition::Table(b)) => b.0 as u64,
+        Some(Condition::Unfolded(b)) => b.0 as u64,
     }
 }
 
 // An answer told to C.
-pub fn told(judged: Judged) -> Answer
+pub fn told(judged: Result<usize, Refusal>) -> Answer
     ensures { result ≡ answer_of judged }
 {
     Answer {
@@ -48,31 +48,31 @@ pub fn told(judged: Judged) -> Answer
 }
 
 // The value of an answer, put where the call worked.
-pub fn put_value(judged: Judged, value: &mut u64)
+pub fn put_value(judged: Result<usize, Refusal>, value: &mut u64)
     ensures { value.new ≡ value_or judged value.old }
 {
-    let Judged::Fine(found) = judged else {
+    let Ok(found) = judged else {
         return;
     };
     *value = found as u64;
 }
 
 // The value of an answer that is a number of two bytes, likewise.
-pub fn put_number(judged: Judged, number: &mut u16)
+pub fn put_number(judged: Result<usize, Refusal>, number: &mut u16)
     requires { value_of judged < 65536 }
     ensures { number.new ≡ value_or judged number.old }
 {
-    let Judged::Fine(found) = judged else {
+    let Ok(found) = judged else {
         return;
     };
     *number = found as u16;
 }
 
 // The number of an event, put where the call worked.
-pub fn put_event(judged: Judged, event: TableEvent, number: &mut u16)
+pub fn put_event(judged: Result<usize, Refusal>, event: TableEvent, number: &mut u16)
     ensures { number.new ≡ given judged event.0 number.old }
 {
-    let Judged::Fine(_) = judged else {
+    let Ok(_) = judged else {
         return;
     };
     *number = event.0;
@@ -137,7 +137,7 @@ fn marker_at(colour: Colour, i: usize) -> Marker
 }
 
 // The markers of a colour over the first numbers of a lent output, where it has room.
-fn write_markers(colour: Colour, out: &mut [u32]) -> Judged
+fn write_markers(colour: Colour, out: &mut [u32]) -> Result<usize, Refusal>
     ensures answer { result ≡ fitting colour.count (length out.old) }
     ensures after { out.new ≡ written result (words_of colour) out.old }
 {
@@ -150,18 +150,15 @@ fn write_markers(colour: Colour, out: &mut [u32]) -> Judged
         out[i] = word_of(marker_at(colour, i));
         i = i + 1;
     }
-    Judged::Fine(count)
+    Ok(count)
 }
 
 // The markers of an origin written to a lent output; fine: how many.
-pub fn put_markers(origin: EventOrigin, out: &mut [u32]) -> Judged
+pub fn put_markers(origin: EventOrigin, out: &mut [u32]) -> Result<usize, Refusal>
     ensures answer { result ≡ markers_of origin (length out.old) }
     ensures after { out.new ≡ markers_into origin out.old }
 {
-    let answer = origin.answer;
-    let Judged::Fine(_) = answer else {
-        return answer;
-    };
+    origin.answer?;
     let colour = origin.colour;
     write_markers(colour, out)
 }
@@ -173,7 +170,7 @@ pub fn condition_number(
     copy: bool,
     marker: u32,
     user: TableEvent,
-) -> Judged
+) -> Result<usize, Refusal>
     ensures { result ≡ condition_for table.now b.0 copy marker user.0 }
 {
     if copy {
@@ -183,13 +180,13 @@ pub fn condition_number(
 }
 
 // An origin as an answer.
-pub fn origin_answer(origin: ConditionOrigin) -> Judged
+pub fn origin_answer(origin: ConditionOrigin) -> Result<usize, Refusal>
     ensures { result ≡ origin_answer origin }
 {
     match origin {
-        ConditionOrigin::Ordinary(_) => Judged::Fine(0),
-        ConditionOrigin::Copy(_, _, _) => Judged::Fine(0),
-        ConditionOrigin::Refused(refusal) => Judged::Refused(refusal),
+        ConditionOrigin::Ordinary(_) => Ok(0),
+        ConditionOrigin::Copy(_, _, _) => Ok(0),
+        ConditionOrigin::Refused(refusal) => Err(refusal),
     }
 }
 

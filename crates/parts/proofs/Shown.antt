@@ -5,8 +5,8 @@ use mathlib.Core.Path.{◌≡◌, sym, ◌∙◌}
 use mathlib.Core.List.{List, []}
 use lib.ListN.{length}
 use Rattle.refusal.specs.declared.Refusal.{Refusal}
-use Rattle.refusal.specs.declared.Judged.{Judged}
-use Rattle.refusal.specs.declared.Judged.TheVariants.{Fine, Refused}
+use Rattle.refusal.specs.Answer.{Judged}
+use Rattle.std.specs.Prelude.{Ok, Err}
 use Rattle.records.specs.Records.{pre_count, post_count}
 use Rattle.records.specs.Parts.{place_in}
 use Rattle.records.proofs.Parts.{place_in_lem}
@@ -16,7 +16,7 @@ use Rattle.table.proofs.Walk.{accepted}
 use Rattle.parts.proofs.Asking.{asked_fine}
 
 -- an asking's answer r, refused
-module _ {x r : Judged} {refusal : Refusal} (asked : r ≡ x) (t : r ≡ Refused refusal) where
+module _ {x r : Judged} {refusal : Refusal} (asked : r ≡ x) (t : r ≡ Err refusal) where
   pub shown_none : (bytes : ℕ → List ℕ) → [] ≡ shown_for x bytes
   shown_none bytes = simp (sym asked ∙ t)
 
@@ -24,7 +24,7 @@ module _ {x r : Judged} {refusal : Refusal} (asked : r ≡ x) (t : r ≡ Refused
   place_none place = simp (sym asked ∙ t)
 
 -- an asking's answer r, fine, with a list that begins inside the table
-module _ {x r : Judged} {at : ℕ} (asked : r ≡ x) (t : r ≡ Fine at) where
+module _ {x r : Judged} {at : ℕ} (asked : r ≡ x) (t : r ≡ Ok at) where
   pub shown_at_lem : (bytes : ℕ → List ℕ) → bytes at ≡ shown_for x bytes
   shown_at_lem bytes = simp (sym asked ∙ t)
 
@@ -32,17 +32,17 @@ module _ {x r : Judged} {at : ℕ} (asked : r ≡ x) (t : r ≡ Fine at) where
   place_at s place h = sym (place_in_lem s (place at) h) ∙ simp (sym asked ∙ t)
 
 -- an event that was found has its lists inside the table
-pub asked_room : (s : List ℕ) (e at : ℕ) → asked_of s e ≡ Fine at → at + 8 + 2 * pre_count s at + 2 * post_count s at ≤ length s
+pub asked_room : (s : List ℕ) (e at : ℕ) → asked_of s e ≡ Ok at → at + 8 + 2 * pre_count s at + 2 * post_count s at ≤ length s
 asked_room s e at t = let f = (asked_fine s e at t).event in omega arith
 
 -- so has the Marking record of an accepted table
-pub marking_room : (s : List ℕ) (n : ℕ) → judge_of s ≡ Fine n → offset_of s n + 4 ≤ length s
+pub marking_room : (s : List ℕ) (n : ℕ) → judge_of s ≡ Ok n → offset_of s n + 4 ≤ length s
 marking_room s n j = let m = (accepted s n j).marking in omega arith
 
-pub marking_asked : (s : List ℕ) (n : ℕ) → judge_of s ≡ Fine n → Fine (offset_of s n) ≡ asked_marking_of s
+pub marking_asked : (s : List ℕ) (n : ℕ) → judge_of s ≡ Ok n → Ok (offset_of s n) ≡ asked_marking_of s
 unfolding asked_marking_of
 marking_asked s n j = simp j
 
-pub marking_refused : (s : List ℕ) (refusal : Refusal) → judge_of s ≡ Refused refusal → Refused refusal ≡ asked_marking_of s
+pub marking_refused : (s : List ℕ) (refusal : Refusal) → judge_of s ≡ Err refusal → Err refusal ≡ asked_marking_of s
 unfolding asked_marking_of
 marking_refused s refusal j = simp j

@@ -4,76 +4,54 @@
 ghost use Rattle.std.specs.Prelude.{◌≡◌, get_or};
 ghost use Rattle.words.specs.Words.{words};
 ghost use Rattle.records.specs.Parts.{Part};
-ghost use Rattle.parts.specs.Asked.{asked_of, asked_condition_of, pre_part_of, post_part_of, marking_part_of, pre_place_of, post_place_of, marking_place_of, persistence_of, persistence_if};
+ghost use Rattle.parts.specs.Asked.{asked_of, asked_condition_of, pre_part_of, post_part_of, marking_part_of, pre_place_of, post_place_of, marking_place_of, persistence_of};
 ghost use Rattle.table.specs.Decoded.{net_of, list_of};
 
-use refusal::{Judged, Refusal, TableCondition, TableEvent};
+use refusal::{Refusal, TableCondition, TableEvent};
 
-// Whether a condition is persistent, or the refusal.
+// What kind of condition one is.
 #[derive(Clone, Copy)]
 pub enum Persistence {
     Ordinary,
     Persistent,
-    Refused(Refusal),
 }
 
 // Asked for event e: the offset of its record, or the refusal.
-pub fn asked(table: &[u8], e: TableEvent) -> Judged
+pub fn asked(table: &[u8], e: TableEvent) -> Result<usize, Refusal>
     ensures { result ≡ asked_of table.now e.0 }
 {
-    let r = table::judge(table);
-    let Judged::Fine(n) = r else {
-        return r;
-    };
+    let n = table::judge(table)?;
     let wanted = e.0;
     if (wanted as usize) < n {
-        Judged::Fine(table::offset(table, wanted))
+        Ok(table::offset(table, wanted))
     } else {
         refusal::refused(10, 0)
     }
 }
 
 // Asked for condition b: the offset of its byte, or the refusal.
-pub fn asked_condition(table: &[u8], b: TableCondition) -> Judged
+pub fn asked_condition(table: &[u8], b: TableCondition) -> Result<usize, Refusal>
     ensures { result ≡ asked_condition_of table.now b.0 }
 {
-    let r = table::judge(table);
-    let Judged::Fine(_) = r else {
-        return r;
-    };
+    table::judge(table)?;
     let wanted = b.0;
     if wanted < records::conditions(table) {
-        Judged::Fine(records::front(table) + 4 + wanted as usize)
+        Ok(records::front(table) + 4 + wanted as usize)
     } else {
         refusal::refused(10, 0)
     }
 }
 
-// A refused asking as an answer on persistence, with whether the condition is persistent where it is fine.
-fn answered(r: Judged, flag: bool) -> Persistence
-    ensures { result ≡ persistence_if r flag }
-{
-    match r {
-        Judged::Fine(_) => {
-            if flag {
-                Persistence::Persistent
-            } else {
-                Persistence::Ordinary
-            }
-        }
-        Judged::Refused(refusal) => Persistence::Refused(refusal),
-    }
-}
-
 // Whether condition b is persistent, or the refusal.
-pub fn persistent(table: &[u8], b: TableCondition) -> Persistence
+pub fn persistent(table: &[u8], b: TableCondition) -> Result<Persistence, Refusal>
     ensures { result ≡ persistence_of table.now b.0 }
 {
-    let r = asked_condition(table, b);
-    let Judged::Fine(at) = r else {
-        return answered(r, false);
-    };
-    answered(r, words::byte(table, at) == 1)
+    let at = asked_condition(table, b)?;
+    if words::byte(table, at) == 1 {
+        Ok(Persistence::Persistent)
+    } else {
+        Ok(Persistence::Ordinary)
+    }
 }
 
 // The preconditions of event e, not copied: the bytes of the caller's table that hold them.
@@ -82,7 +60,7 @@ pub fn pre_part(table: &[u8], e: TableEvent) -> &[u8]
     ensures read { words result.now ≡ list_of (net_of table.now) (net_of table.now).preconditions e.0 }
 {
     let r = asked(table, e);
-    let Judged::Fine(at) = r else {
+    let Ok(at) = r else {
         return &table[..0];
     };
     records::pre_at(table, at)
@@ -94,7 +72,7 @@ pub fn post_part(table: &[u8], e: TableEvent) -> &[u8]
     ensures read { words result.now ≡ list_of (net_of table.now) (net_of table.now).postconditions e.0 }
 {
     let r = asked(table, e);
-    let Judged::Fine(at) = r else {
+    let Ok(at) = r else {
         return &table[..0];
     };
     records::post_at(table, at)
@@ -106,7 +84,7 @@ pub fn marking_part(table: &[u8]) -> &[u8]
     ensures read { words result.now ≡ (net_of table.now).start }
 {
     let r = table::judge(table);
-    let Judged::Fine(n) = r else {
+    let Ok(n) = r else {
         return &table[..0];
     };
     records::marking_at(table, table::offset(table, n as u16))

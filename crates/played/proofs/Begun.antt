@@ -3,7 +3,7 @@ use mathlib.Core.Path.{◌≡◌, subst}
 use mathlib.Core.List.{List}
 use Prim.Native.Nat.{ℕ}
 use Rattle.model.specs.Net.{Net, Marking}
-use Rattle.refusal.specs.declared.Judged.{Judged}
+use Rattle.refusal.specs.Answer.{Judged}
 use Rattle.played.specs.Played.{Plays}
 
 pub begun_plays : (n : Net) (m p : Marking) → m ≡ p → (r : List ℕ) (answer : Judged) (held : List ℕ) → Plays n m r answer held → Plays n p r answer held

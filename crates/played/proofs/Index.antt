@@ -13,7 +13,7 @@ use borrow.Author.Tests.{eqb-true, eqb-false}
 use Rattle.lists.proofs.Bools.{is_false}
 use Rattle.lists.specs.Lists.{mem}
 use Rattle.model.specs.Net.{begin}
-use Rattle.refusal.specs.declared.Judged.TheVariants.{Fine}
+use Rattle.std.specs.Prelude.{Ok}
 use Rattle.words.specs.Words.{word_at, words}
 use Rattle.records.specs.Records.{front, conditions, marking_part}
 use Rattle.table.specs.Walk.{judge_of, offset_from, offset_of}
@@ -46,7 +46,7 @@ pub record Filling (s : List ℕ) (n i at c : ℕ) (l : List ℕ) : Type 0 where
 pub filling_start : (s : List ℕ) (n at : ℕ) (l : List ℕ) → at ≡ offset_of s 0 → Filling s n 0 at (length l) l
 filling_start s n at l e = record { upto = omega arith; place = e; long = refl; each = λ e h. absurd (omega arith) }
 
-module _ (s : List ℕ) (n : ℕ) (j : judge_of s ≡ Fine n) (i at c : ℕ) (l : List ℕ) (f : Filling s n i at c l) where
+module _ (s : List ℕ) (n : ℕ) (j : judge_of s ≡ Ok n) (i at c : ℕ) (l : List ℕ) (f : Filling s n i at c l) where
   -- the record that stands there lies inside the table
   pub filling_inside : i < n → at + 4 + word_at s at ≤ length s
   filling_inside h = rw f.place ((accepted s n j).event i h).within
@@ -69,14 +69,14 @@ module _ (s : List ℕ) (n : ℕ) (j : judge_of s ≡ Fine n) (i at c : ℕ) (l 
 
 -- ---- the start
 
-pub start_put : (s : List ℕ) (n : ℕ) → judge_of s ≡ Fine n → (part l : List ℕ) (at : ℕ) → at ≡ offset_of s n → part ≡ marking_part s at → l ≡ replicate 256 0
+pub start_put : (s : List ℕ) (n : ℕ) → judge_of s ≡ Ok n → (part l : List ℕ) (at : ℕ) → at ≡ offset_of s n → part ≡ marking_part s at → l ≡ replicate 256 0
     → set_all [] 1 (words part) l ≡ bytes 256 (begin (net_of s))
 unfolding begin
 start_put s n j part l at is_at is_part zeros =
     ap (set_all [] 1 (words part)) zeros ∙ put_all (words part) 256
     ∙ ap (λ (bs : List ℕ). bytes 256 (λ b. mem b bs)) (ap words (is_part ∙ ap (marking_part s) is_at) ∙ start_read s n j)
 
-pub start_collected : (s : List ℕ) (n : ℕ) → judge_of s ≡ Fine n → (part held : List ℕ) (at : ℕ) → at ≡ offset_of s n → part ≡ marking_part s at
+pub start_collected : (s : List ℕ) (n : ℕ) → judge_of s ≡ Ok n → (part held : List ℕ) (at : ℕ) → at ≡ offset_of s n → part ≡ marking_part s at
     → held_in held ≡ tabled (λ b. mem b (words part)) → held_in held ≡ begin (net_of s)
 unfolding begin
 start_collected s n j part held at is_at is_part is =

@@ -4,7 +4,7 @@ use mathlib.Core.Path.{◌≡◌, sym, ap, subst}
 use mathlib.Core.List.{List}
 use borrow.Author.Tests.{le-ltb}
 use Rattle.model.specs.Net.{Marking, fire, stopping}
-use Rattle.refusal.specs.declared.Judged.TheVariants.{Fine}
+use Rattle.std.specs.Prelude.{Ok}
 use Rattle.table.specs.Walk.{judge_of, offset_of}
 use Rattle.table.specs.Decoded.{net_of}
 use Rattle.step.specs.declared.Cause.TheVariants.{Unknown}
@@ -13,7 +13,7 @@ use Rattle.step.specs.Tests.{Recorded, moved}
 use Rattle.step.specs.Steps.{record_net, step_of}
 use Rattle.game.proofs.Found.{stopping_found, stopping_unknown, fire_found, listed_found}
 
-module _ (s : List ℕ) (n : ℕ) (j : judge_of s ≡ Fine n) (e : ℕ) where
+module _ (s : List ℕ) (n : ℕ) (j : judge_of s ≡ Ok n) (e : ℕ) where
   pub move_unknown : n ≤ e → (m : Marking) → (Stops Unknown ≡ step_of (stopping (net_of s) m e)) × (m ≡ moved (stopping (net_of s) m e) (fire (net_of s) m e) m)
   move_unknown h m = let q = stopping_unknown s n j e (le-ltb e n h) m in (rw q, rw q)
 

@@ -17,8 +17,8 @@ use Rattle.model.specs.Across.{of_table, stopped, stuck, too_long, most_steps}
 use Rattle.model.proofs.Firing.{can_event, none_can, fire_none, runs_snoc}
 use Rattle.model.proofs.Replay.{stops_replay}
 use Rattle.model.proofs.Answers.{stuck_none, length_short}
-use Rattle.refusal.specs.declared.Judged.{Judged}
-use Rattle.refusal.specs.declared.Judged.TheVariants.{Fine}
+use Rattle.refusal.specs.Answer.{Judged}
+use Rattle.std.specs.Prelude.{Ok}
 use Rattle.refusal.specs.Answer.{refused_at}
 use Rattle.refusal.proofs.Chain.{never_both}
 use borrow.Author.Tests.{lt-leb}
@@ -129,6 +129,6 @@ unfolding too_long
 too_long_lem n m r held long answer a = record { told = a ∙ rw (lt-leb (length r) most_steps long); reached = λ x f. never_both (sym f ∙ a) }
 
 pub comes_to_end : (n : Net) (m : Marking) (r : List ℕ) (k : ℕ) (held : List ℕ) → Going n m r k held → length r ≤ k → length r ≤ most_steps → (x : ℕ) → x ≡ n.conditions
-    → Plays n m r (Fine x) held
+    → Plays n m r (Ok x) held
 comes_to_end n m r k held g h short x e =
-    record { told = rw (length_short r short, going_free n m r k held g h) (ap Fine e); reached = λ y f. going_end n m r k held g h }
+    record { told = rw (length_short r short, going_free n m r k held g h) (ap Ok e); reached = λ y f. going_end n m r k held g h }

@@ -3,8 +3,8 @@ use Rattle.std.specs.Prelude.{◌≡◌, List, ℕ, ◌≤◌, ◌<◌, length, 
 use Rattle.model.specs.Net.{Net, Marking}
 use Rattle.model.specs.Runs.{end, replay}
 use Rattle.model.specs.Across.{of_table, stuck, too_long}
-use Rattle.refusal.specs.declared.Judged.{Judged}
-use Rattle.refusal.specs.declared.Judged.TheVariants.{Fine}
+use Rattle.refusal.specs.Answer.{Judged}
+use Rattle.std.specs.Prelude.{Ok}
 use Rattle.records.specs.Records.{conditions}
 use Rattle.table.specs.Walk.{judge_of, offset_of}
 use Rattle.table.specs.Links.{refused_or}
@@ -20,7 +20,7 @@ pub record Indexed (s : List ℕ) (n : ℕ) (l : List ℕ) : Type 0 where
 -- A judged table with its index, and bytes to be played on, as many as its conditions or more, and as many as a table can have
 -- conditions at most.
 pub record Playable (s : List ℕ) (n : ℕ) (offsets l : List ℕ) : Type 0 where
-  pub judged : judge_of s ≡ Fine n
+  pub judged : judge_of s ≡ Ok n
   pub indexed : Indexed s n offsets
   pub lents : Lent l
   pub room : (conditions s ≤ length l) × (length l ≤ 256)
@@ -28,5 +28,5 @@ pub record Playable (s : List ℕ) (n : ℕ) (offsets l : List ℕ) : Type 0 whe
 -- A run played from a marking: the answer is 3, then what its steps say, and where it is fine the words tell the marking at the end (01,
 -- Refusal numbers).
 pub record Plays (n : Net) (m : Marking) (r : List ℕ) (answer : Judged) (held : List ℕ) : Type 0 where
-  pub told : answer ≡ refused_or (too_long r) (refused_or (stuck of_table (replay n 0 (begun_at n m) r)) (Fine n.conditions))
-  pub reached : (x : ℕ) → answer ≡ Fine x → held_in held ≡ end n m r
+  pub told : answer ≡ refused_or (too_long r) (refused_or (stuck of_table (replay n 0 (begun_at n m) r)) (Ok n.conditions))
+  pub reached : (x : ℕ) → answer ≡ Ok x → held_in held ≡ end n m r

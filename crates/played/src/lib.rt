@@ -8,25 +8,25 @@ ghost use Rattle.table.specs.Walk.{judge_of};
 ghost use Rattle.table.specs.Decoded.{net_of};
 ghost use Rattle.refusal.specs.Answer.{fitting, written};
 ghost use Rattle.model.specs.Lent.{bytes, marking};
-ghost use Rattle.refusal.specs.declared.Judged.TheVariants.{Fine};
+ghost use Rattle.std.specs.Prelude.{Ok};
 ghost use Rattle.held.specs.Held.{held_in};
 ghost use Rattle.step.specs.Tests.{Keeps, moved};
 ghost use Rattle.step.specs.Steps.{step_of, stepped};
 ghost use Rattle.played.specs.Played.{Indexed, Playable, Plays};
 
-use refusal::Judged;
+use refusal::Refusal;
 use step::{Cause, Moved, Step};
 
 // What a run answers, and the marking that it comes to.
 #[derive(Clone, Copy)]
 pub struct Played {
-    pub answer: Judged,
+    pub answer: Result<usize, Refusal>,
     pub held: [u64; 4],
 }
 
 // The offset of each event of a judged table, by its number.
 pub fn fill(table: &[u8], n: usize, offsets: &mut [usize])
-    requires { (judge_of table.now ≡ Fine n) × (n ≤ length offsets.old) }
+    requires { (judge_of table.now ≡ Ok n) × (n ≤ length offsets.old) }
     ensures { Indexed table.now n offsets.new }
 {
     let mut at = table::offset(table, 0);
@@ -40,7 +40,7 @@ pub fn fill(table: &[u8], n: usize, offsets: &mut [usize])
 
 // The marking at the start of a judged table, put into bytes that are all 0.
 pub fn start(table: &[u8], n: usize, state: &mut [u8])
-    requires { (judge_of table.now ≡ Fine n) × (state.old ≡ replicate 256 0) }
+    requires { (judge_of table.now ≡ Ok n) × (state.old ≡ replicate 256 0) }
     ensures { state.new ≡ bytes 256 (begin (net_of table.now)) }
 {
     let list = records::marking_at(table, table::offset(table, n as u16));
@@ -49,7 +49,7 @@ pub fn start(table: &[u8], n: usize, state: &mut [u8])
 
 // The marking at the start of a judged table.
 pub fn start_held(table: &[u8], n: usize) -> [u64; 4]
-    requires { judge_of table.now ≡ Fine n }
+    requires { judge_of table.now ≡ Ok n }
     ensures { held_in result ≡ begin (net_of table.now) }
 {
     held::collect(records::marking_at(table, table::offset(table, n as u16)))
@@ -82,7 +82,7 @@ fn move_event<'a>(
     kept: [u64; 4],
     held: [u64; 4],
 ) -> Moved
-    requires { (judge_of table.now ≡ Fine n) × Indexed table.now n offsets.now × Keeps table.now kept }
+    requires { (judge_of table.now ≡ Ok n) × Indexed table.now n offsets.now × Keeps table.now kept }
     ensures answer { result.step ≡ step_of (stopping (net_of table.now) (held_in held) e) }
     ensures after { held_in result.held ≡ moved (stopping (net_of table.now) (held_in held) e) (fire (net_of table.now) (held_in held) e) (held_in held) }
 {
@@ -103,7 +103,7 @@ pub fn play<'a>(
     run: &'a [u16],
     start: [u64; 4],
 ) -> Played
-    requires { (judge_of table.now ≡ Fine n) × Indexed table.now n offsets.now }
+    requires { (judge_of table.now ≡ Ok n) × Indexed table.now n offsets.now }
     ensures { Plays (net_of table.now) (held_in start) run.now result.answer result.held }
 {
     let mut held = start;
@@ -128,13 +128,13 @@ pub fn play<'a>(
         k = k + 1;
     }
     Played {
-        answer: Judged::Fine(records::conditions(table) as usize),
+        answer: Ok(records::conditions(table) as usize),
         held,
     }
 }
 
 // The end of a run over the first bytes of a lent output, where it has room.
-pub fn write_end(held: [u64; 4], count: usize, end: &mut [u8]) -> Judged
+pub fn write_end(held: [u64; 4], count: usize, end: &mut [u8]) -> Result<usize, Refusal>
     ensures answer { result ≡ fitting count (length end.old) }
     ensures after { end.new ≡ written result (bytes count (held_in held)) end.old }
 {
@@ -142,5 +142,5 @@ pub fn write_end(held: [u64; 4], count: usize, end: &mut [u8]) -> Judged
         return refusal::refused(16, count);
     }
     held::spread(held, count, end);
-    Judged::Fine(count)
+    Ok(count)
 }

@@ -1,7 +1,7 @@
 // Plays nets A, B and E, and B under the old rule, and writes each answer and what it left in lent memory; run by the gate.
 #![tactic(auto)]
 
-use refusal::{By, Judged, TableEvent};
+use refusal::{Condition, Refusal, TableEvent};
 use std::io;
 
 // The number of a condition that stopped a step.
@@ -11,22 +11,22 @@ fn condition(rt: &impl Print, b: u16) -> io::Result<()> {
 }
 
 // What stopped a step, if a condition did.
-fn cause(rt: &impl Print, by: By) -> io::Result<()> {
+fn cause(rt: &impl Print, by: Option<Condition>) -> io::Result<()> {
     match by {
-        By::Nothing => Ok(()),
-        By::Table(b) => condition(rt, b.0),
-        By::Unfolded(b) => condition(rt, b.0),
+        None => Ok(()),
+        Some(Condition::Table(b)) => condition(rt, b.0),
+        Some(Condition::Unfolded(b)) => condition(rt, b.0),
     }
 }
 
 // One answer: the elements written, or the refusal with its place and the condition.
-fn tell(rt: &impl Print, answer: Judged) -> io::Result<()> {
+fn tell(rt: &impl Print, answer: Result<usize, Refusal>) -> io::Result<()> {
     match answer {
-        Judged::Fine(count) => {
+        Ok(count) => {
             rt.write_all(b"fine ")?;
             rt.print(count as u64)?;
         }
-        Judged::Refused(refusal) => {
+        Err(refusal) => {
             rt.write_all(b"refused ")?;
             rt.print(refusal.number as u64)?;
             rt.write_all(b" at ")?;

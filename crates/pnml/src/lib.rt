@@ -9,7 +9,7 @@ ghost use Rattle.spelling.specs.Puts.{farthest, Put};
 ghost use Rattle.pnml.specs.declared.Element.TheVariants.{Opens, Place, Transition, Arc};
 ghost use Rattle.pnml.specs.Text.{arc_begins, place_name, transition_name, place_ends, source_name, target_name, text_of};
 
-use refusal::Judged;
+use refusal::Refusal;
 
 // What an arc joins: a place into a transition, or a transition's way out to a place.
 #[derive(Clone, Copy)]
@@ -161,7 +161,7 @@ fn put_element(out: &mut [u8], conditions: usize, element: Element) -> usize
 }
 
 // An element of a net that doubles so many conditions written to a lent output.
-pub fn write(conditions: usize, element: Element, out: &mut [u8]) -> Judged
+pub fn write(conditions: usize, element: Element, out: &mut [u8]) -> Result<usize, Refusal>
     ensures answer { result ≡ fitting (length (text_of conditions element)) (length out.old) }
     ensures after { out.new ≡ written result (text_of conditions element) out.old }
 {
@@ -171,5 +171,5 @@ pub fn write(conditions: usize, element: Element, out: &mut [u8]) -> Judged
         return refusal::refused(16, needed);
     }
     put_element(out, conditions, element);
-    Judged::Fine(needed)
+    Ok(needed)
 }

@@ -13,7 +13,7 @@ use Rattle.lists.proofs.Members.{mem_keep}
 use Rattle.lists.proofs.Distinct.{ascending_keep}
 use Rattle.words.specs.Words.{words}
 use Rattle.records.specs.Records.{pre_part}
-use Rattle.refusal.specs.declared.Judged.TheVariants.{Fine}
+use Rattle.std.specs.Prelude.{Ok}
 use Rattle.model.specs.Net.{Net}
 use Rattle.model.specs.Runs.{Marker}
 use Rattle.model.specs.Unfolding.{markers, reads}
@@ -94,7 +94,7 @@ pub numbered_part : (s : List ℕ) (events : ℕ) (offsets ms us before w : List
 numbered_part s events offsets ms us before w q x i z =
     let long : length (take i offsets) ≡ events = length-take-le i offsets (omega (arith, x.long)) ∙ z in
     record {
-      judged = q.judged ∙ ap Fine (sym long);
+      judged = q.judged ∙ ap Ok (sym long);
       indexed = record { long = omega arith; each = λ e l. get_or-take i offsets e 0 (omega (arith, long)) ∙ x.each e (omega (arith, long)) };
       marked = q.counted.marked;
       few = q.few;

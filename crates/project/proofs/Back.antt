@@ -16,8 +16,8 @@ use Rattle.model.specs.Net.{Net}
 use Rattle.model.specs.Unfolding.{origin}
 use Rattle.model.specs.Numbering.{size}
 use Rattle.model.specs.Across.{read_back}
-use Rattle.refusal.specs.declared.Judged.{Judged}
-use Rattle.refusal.specs.declared.Judged.TheVariants.{Fine}
+use Rattle.refusal.specs.Answer.{Judged}
+use Rattle.std.specs.Prelude.{Ok}
 use Rattle.refusal.specs.Answer.{refused_at, value_of, fitting}
 use Rattle.refusal.proofs.Chain.{need_passes, need_refuses}
 use Rattle.layout.specs.Laid.{Sums}
@@ -62,10 +62,10 @@ module _ (before : List ℕ) (events : ℕ) (w old : List ℕ) where
   pub short_written : (a : Judged) → a ≡ refused_at 16 (length w) → length old < length w → (a ≡ fitting (length w) (length old)) × Read before events w (value_of a) old old
   unfolding fitting
   short_written a z h =
-      (z ∙ sym (need_refuses 16 (length w) (Fine (length w)) (lt-leb (length w) (length old) h)), subst (λ (x : Judged). Read before events w (value_of x) old old) (sym z) (read_start before events w old))
+      (z ∙ sym (need_refuses 16 (length w) (Ok (length w)) (lt-leb (length w) (length old) h)), subst (λ (x : Judged). Read before events w (value_of x) old old) (sym z) (read_start before events w old))
 
   pub fits_written : (new : List ℕ) → Read before events w (length w) old new → length w ≤ length old
-      → (Fine (length w) ≡ fitting (length w) (length old)) × Read before events w (length w) old new
+      → (Ok (length w) ≡ fitting (length w) (length old)) × Read before events w (length w) old new
   unfolding fitting
   fits_written new r h = (sym (need_passes 16 (length w) (le-leb (length w) (length old) h)), r)
 

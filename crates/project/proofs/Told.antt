@@ -16,8 +16,8 @@ use Rattle.model.proofs.Firing.{runs_event}
 use Rattle.model.proofs.Answers.{unless_run, projecting_run, run_projecting}
 use Rattle.model.proofs.Project.{length_back}
 use Rattle.refusal.specs.declared.Refusal as declared
-use Rattle.refusal.specs.declared.Judged.{Judged}
-use Rattle.refusal.specs.declared.Judged.TheVariants.{Fine, Refused}
+use Rattle.refusal.specs.Answer.{Judged}
+use Rattle.std.specs.Prelude.{Ok, Err}
 use Rattle.refusal.specs.Answer.{refused_at, value_of, fitting, written}
 use Rattle.refusal.proofs.Chain.{never_both, need_passes, need_refuses, then_fine}
 use Rattle.table.specs.Walk.{judge_of}
@@ -37,7 +37,7 @@ use Rattle.project.proofs.Back.{read_none, read_is}
 -- ---- answers of the model
 
 -- a replay that is refused is the answer of the projection
-stuck_fitted : (o : Option Refusal) (a : Answer) (k room : ℕ) (p : Judged) {x : declared.Refusal} → p ≡ refused_or o (Fine k) → p ≡ Refused x → p ≡ fitted (unless o a) room
+stuck_fitted : (o : Option Refusal) (a : Answer) (k room : ℕ) (p : Judged) {x : declared.Refusal} → p ≡ refused_or o (Ok k) → p ≡ Err x → p ≡ fitted (unless o a) room
 unfolding fitted
 stuck_fitted none a k room p e t = never_both (sym e ∙ t)
 stuck_fitted (some y) a k room p e t = e
@@ -49,7 +49,7 @@ module _ (s w out : List ℕ) where
   n = net_of s
 
   -- a refused answer leaves the output as it was
-  left_alone : (r : Judged) {x : declared.Refusal} → r ≡ project_of s w (length out) → r ≡ Refused x → (r ≡ project_of s w (length out)) × (out ≡ projected_of s w out)
+  left_alone : (r : Judged) {x : declared.Refusal} → r ≡ project_of s w (length out) → r ≡ Err x → (r ≡ project_of s w (length out)) × (out ≡ projected_of s w out)
   unfolding projected_of
   left_alone r e t = (e, rw (sym e ∙ t) refl)
 
@@ -58,7 +58,7 @@ module _ (s w out : List ℕ) where
   call_is = fitted_across s w (projecting n w) (length out)
 
   -- a fine answer comes with the run that is read back
-  numbers_are : (v : ℕ) → project_of s w (length out) ≡ Fine v → numbers_of (project n w) ≡ read_back n w
+  numbers_are : (v : ℕ) → project_of s w (length out) ≡ Ok v → numbers_of (project n w) ≡ read_back n w
   unfolding project_of project
   numbers_are v fine =
       let y = then_fine (judge_of s) (λ _. fitted (project n w) (length out)) v fine in
@@ -67,28 +67,28 @@ module _ (s w out : List ℕ) where
       let b = unless_run (unfolding_refused n) (projecting n w) g.0 a.1 in
       ap numbers_of g.1 ∙ sym (projecting_run n w g.0 b.1).1
 
-  module _ (r : Judged) (e : r ≡ prepared_of s (length w) (Fine n.events)) where
-    pub told_prepared : {x : declared.Refusal} → r ≡ Refused x → (r ≡ project_of s w (length out)) × (out ≡ projected_of s w out)
+  module _ (r : Judged) (e : r ≡ prepared_of s (length w) (Ok n.events)) where
+    pub told_prepared : {x : declared.Refusal} → r ≡ Err x → (r ≡ project_of s w (length out)) × (out ≡ projected_of s w out)
     told_prepared t = left_alone r (across_passed s (length w) n.events e w refl (fitted (projecting n w) (length out)) t ∙ sym call_is) t
 
-    pub all_events : (m : ℕ) → r ≡ Fine m → m ≡ n.events
-    all_events m f = (across_on s (length w) n.events e w refl (Fine m) f).1
+    pub all_events : (m : ℕ) → r ≡ Ok m → m ≡ n.events
+    all_events m f = (across_on s (length w) n.events e w refl (Ok m) f).1
 
-    pub judged_is : (m : ℕ) → r ≡ Fine m → judge_of s ≡ Fine m
+    pub judged_is : (m : ℕ) → r ≡ Ok m → judge_of s ≡ Ok m
     judged_is m f =
         let j = across_judged s (length w) n.events e f in
-        j.1 ∙ ap Fine (events_are_all s j.0 j.1 ∙ sym (all_events m f))
+        j.1 ∙ ap Ok (events_are_all s j.0 j.1 ∙ sym (all_events m f))
 
-    module _ (m : ℕ) (f : r ≡ Fine m) (p : Judged) (l seen : List ℕ) (t : Replayed n w p l seen) where
+    module _ (m : ℕ) (f : r ≡ Ok m) (p : Judged) (l seen : List ℕ) (t : Replayed n w p l seen) where
       goes : project_of s w (length out) ≡ fitted (projecting n w) (length out)
       goes = call_is ∙ (across_on s (length w) n.events e w refl (fitted (projecting n w) (length out)) f).0
 
-      pub told_stopped : {x : declared.Refusal} → p ≡ Refused x → (p ≡ project_of s w (length out)) × (out ≡ projected_of s w out)
+      pub told_stopped : {x : declared.Refusal} → p ≡ Err x → (p ≡ project_of s w (length out)) × (out ≡ projected_of s w out)
       unfolding projecting
       told_stopped z =
           left_alone p (stuck_fitted (stuck of_unfolding (replay (basic n) 0 (opening (basic n)) w)) (run (read_back n w)) (length w) (length out) p t.told z ∙ sym goes) z
 
-      module _ (v : ℕ) (z : p ≡ Fine v) where
+      module _ (v : ℕ) (z : p ≡ Ok v) where
         pub reading : (ms us bases before : List ℕ) → Ready s (length w) ms us bases before → Reading before m w
         reading ms us bases before d = record {
           few = few_judged s m (judged_is m f);
@@ -111,11 +111,11 @@ module _ (s w out : List ℕ) where
           where
             go : (b : Bool) → leb (length w) (length out) ≡ b → new ≡ projected_of s w out
             go true l =
-                let fine : a ≡ Fine (length w) = is ∙ need_passes 16 (length w) l in
-                let call : project_of s w (length out) ≡ Fine (length w) = fits ∙ sym is ∙ fine in
+                let fine : a ≡ Ok (length w) = is ∙ need_passes 16 (length w) l in
+                let call : project_of s w (length out) ≡ Ok (length w) = fits ∙ sym is ∙ fine in
                 read_is n before sizes m (all_events m f) w out new (leb→le (length w) (length out) (rw l tt)) (subst (λ (x : Judged). Read before m w (value_of x) out new) fine d)
                 ∙ ap (λ (k : ℕ). read_back n w ++ drop k out) (sym (length_back n w))
                 ∙ sym (ap (λ (x : List ℕ). written (project_of s w (length out)) x out) (numbers_are (length w) call) ∙ ap (λ (x : Judged). written x (read_back n w) out) call)
             go false l =
-                let short : a ≡ refused_at 16 (length w) = is ∙ need_refuses 16 (length w) (Fine (length w)) l in
+                let short : a ≡ refused_at 16 (length w) = is ∙ need_refuses 16 (length w) (Ok (length w)) l in
                 read_none before m w out new (subst (λ (x : Judged). Read before m w (value_of x) out new) short d) ∙ (left_alone a (is ∙ sym fits) short).1

@@ -19,8 +19,8 @@ use Rattle.model.specs.Lent.{bytes, marking}
 use Rattle.model.proofs.Lent.{bytes_marking, length_bytes, zeros_say, begun_marking}
 use Rattle.model.proofs.Replay.{stops_replay}
 use Rattle.model.proofs.Answers.{stuck_none}
-use Rattle.refusal.specs.declared.Judged.{Judged}
-use Rattle.refusal.specs.declared.Judged.TheVariants.{Fine}
+use Rattle.refusal.specs.Answer.{Judged}
+use Rattle.std.specs.Prelude.{Ok}
 use Rattle.refusal.proofs.Chain.{never_both}
 use Rattle.table.specs.Walk.{judge_of}
 use Rattle.table.specs.Decoded.{net_of}
@@ -59,7 +59,7 @@ kept_none n places kept p q =
       each = λ b h. rw (ap (λ (l : List ℕ). get_or l b 0) p ∙ replicate_at {A = ℕ} 256 b 0) (marker_first n b);
     }
 
-pub walked_start : (s : List ℕ) (events : ℕ) → judge_of s ≡ Fine events → (w state seen places kept : List ℕ) → length w ≤ most_steps → state ≡ bytes 256 (begin (net_of s))
+pub walked_start : (s : List ℕ) (events : ℕ) → judge_of s ≡ Ok events → (w state seen places kept : List ℕ) → length w ≤ most_steps → state ≡ bytes 256 (begin (net_of s))
     → seen ≡ replicate 256 0 → places ≡ replicate 256 0 → kept ≡ replicate 256 0 → Walked (net_of s) w 0 state seen places kept
 unfolding runs opening after read_back
 walked_start s events j w state seen places kept short is_state is_seen is_places is_kept =
@@ -119,7 +119,7 @@ module _ (n : Net) (w : List ℕ) (k : ℕ) (state seen places kept : List ℕ) 
   walk_stops h r a b d e o x z answer t l m = stops_at h x (subst (λ (y : Step). Stepped n w k y a b d e) z o) answer t l m
 
   -- all steps are walked
-  pub walk_ends : length w ≤ k → Replayed n w (Fine (length w)) state seen
+  pub walk_ends : length w ≤ k → Replayed n w (Ok (length w)) state seen
   unfolding opening
   walk_ends h =
       let all : k ≡ length w = omega (arith, c.upto) in
@@ -136,5 +136,5 @@ module _ (n : Net) (w : List ℕ) (k : ℕ) (state seen places kept : List ℕ) 
 pub walk_on : (n : Net) (w : List ℕ) (k : ℕ) (r : Step) (a b d e : List ℕ) → Stepped n w k r a b d e → r ≡ Goes → Walked n w (k + 1) a b d e
 walk_on n w k r a b d e o z = subst (λ (y : Step). Stepped n w k y a b d e) z o
 
-pub few_judged : (s : List ℕ) (events : ℕ) → judge_of s ≡ Fine events → events ≤ 256
+pub few_judged : (s : List ℕ) (events : ℕ) → judge_of s ≡ Ok events → events ≤ 256
 few_judged s events j = omega (arith, (tabled s events j).few_events, events_are_all s events j)

@@ -7,8 +7,8 @@ use Rattle.model.specs.Unfolding.{reads, origin, basic}
 use Rattle.model.specs.Numbering.{size, condition_count, event_count}
 use Rattle.model.specs.Across.{of_unfolding, stuck, most_steps, most_unfolded, read_back}
 use Rattle.model.specs.Lent.{bytes, marking}
-use Rattle.refusal.specs.declared.Judged.{Judged}
-use Rattle.refusal.specs.declared.Judged.TheVariants.{Fine}
+use Rattle.refusal.specs.Answer.{Judged}
+use Rattle.std.specs.Prelude.{Ok}
 use Rattle.table.specs.Walk.{judge_of}
 use Rattle.table.specs.Decoded.{net_of}
 use Rattle.table.specs.Links.{refused_or}
@@ -27,7 +27,7 @@ use Rattle.located.specs.Located.{Locating}
 
 -- A judged table with all that the numbers of its unfolded events are taken apart by: offsets, numbers of markers, and sums.
 pub record Numbered (s offsets ms before : List ℕ) : Type 0 where
-  pub judged : judge_of s ≡ Fine (length offsets)
+  pub judged : judge_of s ≡ Ok (length offsets)
   pub indexed : Indexed s (length offsets) offsets
   pub marked : Marked s ms
   pub few : event_count (net_of s) ≤ most_unfolded
@@ -103,16 +103,16 @@ pub record Tried (s offsets ms us begun : List ℕ) (e : ℕ) (state seen places
 -- All steps replayed: the answer is what the unfolded net's replay says, and where it is fine the bytes tell the end (01, Refusal
 -- numbers).
 pub record Replayed (n : Net) (w : List ℕ) (r : Judged) (state seen : List ℕ) : Type 0 where
-  pub told : r ≡ refused_or (stuck of_unfolding (replay (basic n) 0 (opening (basic n)) w)) (Fine (length w))
-  pub plays : (x : ℕ) → r ≡ Fine x → T (runs (basic n) (begin (basic n)) w)
-  pub lents : (x : ℕ) → r ≡ Fine x → (state ≡ bytes 256 (marking state)) × (seen ≡ bytes 256 (marking seen))
-  pub here : (x : ℕ) → r ≡ Fine x → marking state ≡ (state_at n w (length w)).marking
-  pub occurred : (x : ℕ) → r ≡ Fine x → marking seen ≡ (state_at n w (length w)).seen
+  pub told : r ≡ refused_or (stuck of_unfolding (replay (basic n) 0 (opening (basic n)) w)) (Ok (length w))
+  pub plays : (x : ℕ) → r ≡ Ok x → T (runs (basic n) (begin (basic n)) w)
+  pub lents : (x : ℕ) → r ≡ Ok x → (state ≡ bytes 256 (marking state)) × (seen ≡ bytes 256 (marking seen))
+  pub here : (x : ℕ) → r ≡ Ok x → marking state ≡ (state_at n w (length w)).marking
+  pub occurred : (x : ℕ) → r ≡ Ok x → marking seen ≡ (state_at n w (length w)).seen
 
 -- A judged table with the numbers that the replay of an unfolded run needs, and a run that is short enough.
 pub record Replayable (s : List ℕ) (events : ℕ) (ms us before w : List ℕ) : Type 0 where
   pub short : length w ≤ most_steps
-  pub judged : judge_of s ≡ Fine events
+  pub judged : judge_of s ≡ Ok events
   pub counted : Counted s ms us
   pub few : event_count (net_of s) ≤ most_unfolded
   pub few_conditions : condition_count (net_of s) ≤ most_unfolded

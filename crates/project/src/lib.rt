@@ -14,7 +14,7 @@ ghost use Rattle.decided.specs.Kept.{marker_at, Kept};
 ghost use Rattle.project.specs.Walked.{Numbered, Underway, Coloured, Stepped, Fires, stops_at, Trying, Tried, Replayed, Replayable, Reading, Read};
 ghost use Rattle.project.specs.Calls.{project_of, projected_of};
 
-use refusal::Judged;
+use refusal::Refusal;
 use unfolded_step::{Cause, Step};
 
 // The event whose record stands at an offset, fired on the bytes of a marking.
@@ -162,7 +162,7 @@ fn play<'a>(
     seen: &mut [u8],
     places: &mut [u32],
     kept: &mut [u32],
-) -> Judged
+) -> Result<usize, Refusal>
     requires { Underway table.now offsets.now markers.now users.now before.now begun.now lifted.now 0 state.old seen.old places.old kept.old }
     ensures { Replayed (net_of table.now) lifted.now result state.new seen.new }
 {
@@ -176,7 +176,7 @@ fn play<'a>(
         }
         k = k + 1;
     }
-    Judged::Fine(lifted.len())
+    Ok(lifted.len())
 }
 
 // An unfolded run replayed from the start into bytes that are all 0: the marking, and the events that have occurred.
@@ -189,7 +189,7 @@ pub fn replay_lifted<'a>(
     lifted: &'a [u16],
     state: &mut [u8],
     seen: &mut [u8],
-) -> Judged
+) -> Result<usize, Refusal>
     requires replayable { Replayable table.now events markers.now users.now before.now lifted.now }
     requires state_value { (state.old ≡ replicate 256 0) × (seen.old ≡ replicate 256 0) }
     ensures { Replayed (net_of table.now) lifted.now result state.new seen.new }
@@ -230,7 +230,7 @@ fn read_back<'a>(before: &'a [u32], events: usize, lifted: &'a [u16], out: &mut 
 }
 
 // The same where the output has room for all of them; fine: how many.
-fn write_back<'a>(before: &'a [u32], events: usize, lifted: &'a [u16], out: &mut [u16]) -> Judged
+fn write_back<'a>(before: &'a [u32], events: usize, lifted: &'a [u16], out: &mut [u16]) -> Result<usize, Refusal>
     requires { Reading before.now events lifted.now }
     ensures answer { result ≡ fitting (length lifted.now) (length out.old) }
     ensures after { Read before.now events lifted.now (value_of result) out.old out.new }
@@ -240,11 +240,11 @@ fn write_back<'a>(before: &'a [u32], events: usize, lifted: &'a [u16], out: &mut
         return refusal::refused(16, steps);
     }
     read_back(before, events, lifted, out);
-    Judged::Fine(steps)
+    Ok(steps)
 }
 
 // The projection of an unfolded run: replayed from the unfolded start, each number then replaced by its event of the table.
-pub fn project<'a>(table: &'a [u8], lifted: &'a [u16], out: &mut [u16]) -> Judged
+pub fn project<'a>(table: &'a [u8], lifted: &'a [u16], out: &mut [u16]) -> Result<usize, Refusal>
     ensures answer { result ≡ project_of table.now lifted.now (length out.old) }
     ensures after { out.new ≡ projected_of table.now lifted.now out.old }
 {
@@ -252,24 +252,18 @@ pub fn project<'a>(table: &'a [u8], lifted: &'a [u16], out: &mut [u16]) -> Judge
     let mut users = [0u32; 256];
     let mut bases = [0u32; 257];
     let mut before = [0u32; 257];
-    let prepared = across::lay_out_run(
+    let events = across::lay_out_run(
         table,
         lifted.len(),
         &mut markers,
         &mut users,
         &mut bases,
         &mut before,
-    );
-    let Judged::Fine(events) = prepared else {
-        return prepared;
-    };
+    )?;
     let mut state = [0u8; 256];
     let mut seen = [0u8; 256];
-    let played = replay_lifted(
+    replay_lifted(
         table, events, &markers, &users, &before, lifted, &mut state, &mut seen,
-    );
-    let Judged::Fine(_) = played else {
-        return played;
-    };
+    )?;
     write_back(&before, events, lifted, out)
 }

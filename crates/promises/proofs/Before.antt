@@ -16,8 +16,8 @@ use Rattle.model.specs.Exchange.{exchanged}
 use Rattle.model.specs.Across.{Whose, stopped, Answer, run, refusal, unless, stuck, too_long, unfolding_refused, own_or_earliest, lifted, repeated, again, lifting, lift, read_back, projecting, project, no_step, not_apart, exchanging, exchange}
 use Rattle.model.specs.Across as model
 use Rattle.model.specs.Lent.{bytes, marking}
-use Rattle.refusal.specs.declared.Judged.{Judged}
-use Rattle.refusal.specs.declared.Judged.TheVariants.{Fine, Refused}
+use Rattle.refusal.specs.Answer.{Judged}
+use Rattle.std.specs.Prelude.{Ok, Err}
 use Rattle.refusal.specs.Answer.{need, and_then, fitting, written}
 use Rattle.table.specs.Walk.{judge_of}
 use Rattle.table.specs.Decoded.{net_of}
@@ -45,8 +45,8 @@ bare_need true number place rest = refl
 bare_need false number place rest = refl
 
 bare_then : (a : Judged) (f : ℕ → Judged) (g : ℕ → Old) → ((v : ℕ) → bare (f v) ≡ g v) → bare (and_then a f) ≡ old_then (bare a) g
-bare_then (Fine v) f g e = e v
-bare_then (Refused x) f g e = refl
+bare_then (Ok v) f g e = e v
+bare_then (Err x) f g e = refl
 
 bare_or : (o : Option model.Refusal) (rest : Judged) → bare (refused_or o rest) ≡ old_or o (bare rest)
 bare_or none rest = refl
@@ -58,7 +58,7 @@ bare_stuck w (refused v k) rest = refl
 
 bare_fitting : (needed room : ℕ) → bare (fitting needed room) ≡ old_fitting needed room
 unfolding fitting
-bare_fitting needed room = bare_need (leb needed room) 16 needed (Fine needed)
+bare_fitting needed room = bare_need (leb needed room) 16 needed (Ok needed)
 
 bare_lent : (c : ℕ) (m : List ℕ) (rest : Judged) → bare (lent c m rest) ≡ old_lent c m (bare rest)
 unfolding lent
@@ -146,8 +146,8 @@ place_kept l number place h t =
     rw (is_false (mem number by_condition) (not_out (mem number by_condition) (all_at (λ x. not (mem x by_condition)) l h number t)))
 
 unplaced_then : (a : Judged) (f : ℕ → Judged) (g : ℕ → Old) → T (listed of_table a) → ((v : ℕ) → unplaced (bare (f v)) ≡ g v) → unplaced (bare (and_then a f)) ≡ old_then (bare a) g
-unplaced_then (Fine v) f g t e = e v
-unplaced_then (Refused x) f g t e = place_kept of_table x.number x.place tt (and_left (mem x.number of_table) (named x) t)
+unplaced_then (Ok v) f g t e = e v
+unplaced_then (Err x) f g t e = place_kept of_table x.number x.place tt (and_left (mem x.number of_table) (named x) t)
 
 unplaced_or : (o : Option model.Refusal) (rest : Judged) (g : Old) → T (listed_if (13 ∷ 14 ∷ []) o) → unplaced (bare rest) ≡ g → unplaced (bare (refused_or o rest)) ≡ old_or o g
 unplaced_or none rest g t e = e
@@ -164,7 +164,7 @@ unplaced_lent : (c : ℕ) (m : List ℕ) (rest : Judged) (g : Old) → unplaced 
 unfolding lent
 unplaced_lent c m rest g e = unplaced_eighteen (eqb (length m) c) c _ _ (unplaced_eighteen (leb (length m) (first_above m)) (first_above m) rest g e)
 
-unplaced_stop : (w : Whose) (o : Option Stop) (value : ℕ) → unplaced (bare (refused_or (firing_stopped w o) (Fine value))) ≡ old_stop o (fine value)
+unplaced_stop : (w : Whose) (o : Option Stop) (value : ℕ) → unplaced (bare (refused_or (firing_stopped w o) (Ok value))) ≡ old_stop o (fine value)
 unplaced_stop w none value = refl
 unplaced_stop w (some unknown) value = refl
 unplaced_stop w (some (lacks b)) value = refl
@@ -194,22 +194,22 @@ written_bare : (a : Judged) (o : Old) (w out : List ℕ) → bare a ≡ o → wr
 written_bare a o w out e = go a ∙ ap (λ (z : Old). old_written z w out) e
   where
     go : (a : Judged) → written a w out ≡ old_written (bare a) w out
-    go (Fine v) = refl
-    go (Refused x) = refl
+    go (Ok v) = refl
+    go (Err x) = refl
 
 leaves_bare : (a : Judged) (o : Old) (new old : List ℕ) → bare a ≡ o → leaves a new old ≡ old_leaves o new old
 leaves_bare a o new old e = go a ∙ ap (λ (z : Old). old_leaves z new old) e
   where
     go : (a : Judged) → leaves a new old ≡ old_leaves (bare a) new old
-    go (Fine v) = refl
-    go (Refused x) = refl
+    go (Ok v) = refl
+    go (Err x) = refl
 
 leaves_unplaced : (a : Judged) (o : Old) (new old : List ℕ) → unplaced (bare a) ≡ o → leaves a new old ≡ old_leaves o new old
 leaves_unplaced a o new old e = go a ∙ ap (λ (z : Old). old_leaves z new old) e
   where
     go : (a : Judged) → leaves a new old ≡ old_leaves (unplaced (bare a)) new old
-    go (Fine v) = refl
-    go (Refused x) = refl
+    go (Ok v) = refl
+    go (Err x) = refl
 
 pub fired_before : (s m : List ℕ) (e : ℕ)
     → fired_of s m e ≡ old_leaves (old_firing s m e (net_of s).conditions) (bytes (net_of s).conditions (fire (net_of s) (marking m) e)) m

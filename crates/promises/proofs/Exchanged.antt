@@ -20,8 +20,8 @@ use Rattle.model.specs.Paper.{holding}
 use Rattle.model.proofs.Answers.{length_short}
 use Rattle.model.proofs.Exchange.{apart_parts, parts_apart}
 use Rattle.model.proofs.Replay.{replay_runs, runs_replay}
-use Rattle.refusal.specs.declared.Judged.{Judged}
-use Rattle.refusal.specs.declared.Judged.TheVariants.{Fine}
+use Rattle.refusal.specs.Answer.{Judged}
+use Rattle.std.specs.Prelude.{Ok}
 use Rattle.refusal.specs.Answer.{refused_at, number_of, place_of}
 use Rattle.refusal.proofs.Chain.{never_both}
 use Rattle.table.specs.Walk.{judge_of}
@@ -79,7 +79,7 @@ premises_at n r k = premises_exactly n (end n (begin n) (take k r)) (get_or r k 
 
 -- what is told of a run that has a step k + 1 or not, and whose two steps pass the test or not
 abbrev told : ℕ → Bool → Bool → Judged
-told k true true = Fine 2
+told k true true = Ok 2
 told k true false = refused_at 17 k
 told k false free = refused_at 10 k
 
@@ -89,7 +89,7 @@ told_is k q true true = refl
 told_is k q true false = refl
 told_is k q false free = refl
 
-told_fine : (k : ℕ) (next free : Bool) → (told k next free ≡ Fine 2) ↔ (T next × T free)
+told_fine : (k : ℕ) (next free : Bool) → (told k next free ≡ Ok 2) ↔ (T next × T free)
 told_fine k true true = (λ _. (tt, tt), λ _. refl)
 told_fine k true false = (λ e. never_both (sym e), λ h. absurd h.1)
 told_fine k false free = (λ e. never_both (sym e), λ h. absurd h.0)
@@ -104,7 +104,7 @@ told_ten k i true true = (λ e. never_both e, λ h. absurd (h.1 tt))
 told_ten k i true false = (λ e. let z : ◌≡◌ {A = ℕ} 17 10 = ap number_of e in absurd (omega arith), λ h. absurd (h.1 tt))
 told_ten k i false free = (λ e. (ap place_of (sym e), λ z. z), λ h. ap (refused_at 10) (sym h.0))
 
-module _ (s r : List ℕ) (k n : ℕ) (j : judge_of s ≡ Fine n) (short : length r ≤ most_steps) where
+module _ (s r : List ℕ) (k n : ℕ) (j : judge_of s ≡ Ok n) (short : length r ≤ most_steps) where
   by_model : exchange_of s r k ≡ swapping (exchanging (net_of s) r k)
   unfolding exchange_of exchange
   by_model = rw (j, length_short r short)
@@ -169,6 +169,6 @@ module _ (s r : List ℕ) (k n : ℕ) (j : judge_of s ≡ Fine n) (short : lengt
 
 -- The same over its contract.
 pub exchange_answers : (κs : _) (a : _) (r : _) (x : _) → exchange-call.Learnt κs a r x
-    → (n : ℕ) → judge_of a.0.now ≡ Fine n → length a.1.0.now ≤ most_steps
+    → (n : ℕ) → judge_of a.0.now ≡ Ok n → length a.1.0.now ≤ most_steps
     → ExchangedExactly (net_of a.0.now) a.1.0.now a.1.1.0 r x.1.0.now
 exchange_answers κs a r x h n j short = rw (h.0, h.1) (exchanged_exactly a.0.now a.1.0.now a.1.1.0 n j short)

@@ -21,8 +21,8 @@ use Rattle.model.proofs.Own.{for_another}
 use Rattle.model.proofs.Repeats.{repeated_cons, repeated_build, repeated_first}
 use Rattle.model.proofs.Answers.{lifting_again}
 use Rattle.refusal.specs.declared.Refusal as declared
-use Rattle.refusal.specs.declared.Judged.{Judged}
-use Rattle.refusal.specs.declared.Judged.TheVariants.{Fine, Refused}
+use Rattle.refusal.specs.Answer.{Judged}
+use Rattle.std.specs.Prelude.{Ok, Err}
 use Rattle.refusal.specs.Answer.{refused_at}
 use Rattle.table.specs.Walk.{judge_of}
 use Rattle.table.specs.Decoded.{net_of}
@@ -151,11 +151,11 @@ module _ (s r out end_out : List ℕ) where
   unfolding lift_of lifted_of lift_end_of lift_ended_of former_lift_of former_lifted_of former_lift_end_of former_lift_ended_of
   same_model q = record { answer = rw q; lifted = rw q; end_answer = rw q; end = rw q }
 
-  no_table : (x : declared.Refusal) → judge_of s ≡ Refused x → AsFormer s r out end_out
+  no_table : (x : declared.Refusal) → judge_of s ≡ Err x → AsFormer s r out end_out
   unfolding lift_of lifted_of lift_end_of lift_ended_of former_lift_of former_lifted_of former_lift_end_of former_lift_ended_of
   no_table x j = record { answer = rw j; lifted = rw j; end_answer = rw j; end = rw j }
 
-  fifteen : (c i : ℕ) → judge_of s ≡ Fine c → former_lift (net_of s) r ≡ refusal (other 15 i) → former_lift_of s r (length out) ≡ refused_at 15 i
+  fifteen : (c i : ℕ) → judge_of s ≡ Ok c → former_lift (net_of s) r ≡ refusal (other 15 i) → former_lift_of s r (length out) ≡ refused_at 15 i
   unfolding former_lift_of fitted
   fifteen c i j q = rw (j, q)
 
@@ -166,5 +166,5 @@ module _ (s r out end_out : List ℕ) where
       go : (a : Judged) → judge_of s ≡ a → ((i : ℕ) × (former_lift (net_of s) r ≡ refusal (other 15 i))) ⊎ (lift (net_of s) r ≡ former_lift (net_of s) r)
           → ((i : ℕ) × (former_lift_of s r (length out) ≡ refused_at 15 i)) ⊎ AsFormer s r out end_out
       go a j (inr q) = inr (same_model q)
-      go (Fine c) j (inl (i, q)) = inl (i, fifteen c i j q)
-      go (Refused x) j (inl q) = inr (no_table x j)
+      go (Ok c) j (inl (i, q)) = inl (i, fifteen c i j q)
+      go (Err x) j (inl q) = inr (no_table x j)

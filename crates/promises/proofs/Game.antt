@@ -16,8 +16,8 @@ use Rattle.model.proofs.Exchange.{exchanged_short}
 use Rattle.model.proofs.Demands.{exchange_exchanged}
 use Rattle.model.proofs.Lent.{length_bytes}
 use Rattle.refusal.specs.declared.Refusal.{Refusal}
-use Rattle.refusal.specs.declared.Judged.{Judged}
-use Rattle.refusal.specs.declared.Judged.TheVariants.{Fine, Refused}
+use Rattle.refusal.specs.Answer.{Judged}
+use Rattle.std.specs.Prelude.{Ok, Err}
 use Rattle.refusal.specs.Answer.{written}
 use Rattle.refusal.proofs.Chain.{never_both, then_fine, fitting_room, written_refused}
 use Rattle.table.specs.Walk.{judge_of}
@@ -35,37 +35,37 @@ use Rattle.promises.specs.Game.{Replayed, OneStep}
 -- ---- refusals change nothing
 
 -- A refused answer leaves lent memory as it was.
-unchanged : (a : Judged) (x : Refusal) (new old : List ℕ) → a ≡ Refused x → leaves a new old ≡ old
+unchanged : (a : Judged) (x : Refusal) (new old : List ℕ) → a ≡ Err x → leaves a new old ≡ old
 unchanged a x new old e = rw e
 
 -- A refused firing leaves the lent marking as it was.
-pub fire_unchanged : (s m : List ℕ) (e : ℕ) (x : Refusal) → fire_of s m e ≡ Refused x → fired_of s m e ≡ m
+pub fire_unchanged : (s m : List ℕ) (e : ℕ) (x : Refusal) → fire_of s m e ≡ Err x → fired_of s m e ≡ m
 unfolding fired_of
 fire_unchanged s m e x h = unchanged (fire_of s m e) x (bytes (net_of s).conditions (fire (net_of s) (marking m) e)) m h
 
 -- A refused replay leaves the lent output as it was.
-pub replay_unchanged : (s r out : List ℕ) (x : Refusal) → replay_of s r (length out) ≡ Refused x → end_of s r out ≡ out
+pub replay_unchanged : (s r out : List ℕ) (x : Refusal) → replay_of s r (length out) ≡ Err x → end_of s r out ≡ out
 unfolding end_of
 replay_unchanged s r out x h = sym (written_refused (replay_of s r (length out)) x (bytes (net_of s).conditions (end (net_of s) (begin (net_of s)) r)) out h)
 
 -- So does a refused replay from a lent marking.
-pub replay_from_unchanged : (s m r out : List ℕ) (x : Refusal) → replay_from_of s m r (length out) ≡ Refused x → end_from_of s m r out ≡ out
+pub replay_from_unchanged : (s m r out : List ℕ) (x : Refusal) → replay_from_of s m r (length out) ≡ Err x → end_from_of s m r out ≡ out
 unfolding end_from_of
 replay_from_unchanged s m r out x h = sym (written_refused (replay_from_of s m r (length out)) x (bytes (net_of s).conditions (end (net_of s) (marking m) r)) out h)
 
 -- A refused exchange leaves the lent run as it was.
-pub exchange_unchanged : (s r : List ℕ) (k : ℕ) (x : Refusal) → exchange_of s r k ≡ Refused x → exchanged_of s r k ≡ r
+pub exchange_unchanged : (s r : List ℕ) (k : ℕ) (x : Refusal) → exchange_of s r k ≡ Err x → exchanged_of s r k ≡ r
 unfolding exchanged_of
 exchange_unchanged s r k x h = unchanged (exchange_of s r k) x (exchanged k r) r h
 
 -- ---- demand 3
 
-pub swapping_fine : (a : Answer) (c : ℕ) → swapping a ≡ Fine c → (w : List ℕ) × (a ≡ run w)
+pub swapping_fine : (a : Answer) (c : ℕ) → swapping a ≡ Ok c → (w : List ℕ) × (a ≡ run w)
 swapping_fine (run w) c e = (w, refl)
 swapping_fine (refusal x) c e = never_both (sym e)
 
 -- What a fine exchange leaves is replayed with the same answer and the same end.
-pub exchange_replayed : (s r : List ℕ) (k c : ℕ) → exchange_of s r k ≡ Fine c → (out : List ℕ) → Replayed s r k out
+pub exchange_replayed : (s r : List ℕ) (k c : ℕ) → exchange_of s r k ≡ Ok c → (out : List ℕ) → Replayed s r k out
 unfolding exchange_of exchanged_of replay_of end_of played_of opening exchange
 exchange_replayed s r k c h out =
     let (n, j, f) = then_fine (judge_of s) (λ n. swapping (exchange (net_of s) r k)) c h in
@@ -80,7 +80,7 @@ exchange_replayed s r k c h out =
     record {
       accepted = λ room.
           let fits = fitting_room (net_of s).conditions (length out) room in
-          let taken : replay_of s r (length out) ≡ Fine (net_of s).conditions = rw (j, short, old) fits in
+          let taken : replay_of s r (length out) ≡ Ok (net_of s).conditions = rw (j, short, old) fits in
           ap (λ (x : List ℕ). replay_of s x (length out)) left ∙ same ∙ taken;
       answer = ap (λ (x : List ℕ). replay_of s x (length out)) left ∙ same;
       same_end = ap (λ (x : List ℕ). end_of s x out) left
@@ -90,26 +90,26 @@ exchange_replayed s r k c h out =
 
 -- ---- a firing as a replay
 
-stopped_fine : (o : Option Stop) (v c : ℕ) → refused_or (firing_stopped of_table o) (Fine v) ≡ Fine c → (o ≡ none) × (v ≡ c)
+stopped_fine : (o : Option Stop) (v c : ℕ) → refused_or (firing_stopped of_table o) (Ok v) ≡ Ok c → (o ≡ none) × (v ≡ c)
 stopped_fine none v c e = (refl, cc)
 stopped_fine (some x) v c e = never_both (sym e)
 
 -- A fine firing is a fine replay of that one step from the lent marking, with the same end.
-pub fire_replayed : (s m : List ℕ) (e c : ℕ) → fire_of s m e ≡ Fine c → OneStep s m e c
+pub fire_replayed : (s m : List ℕ) (e c : ℕ) → fire_of s m e ≡ Ok c → OneStep s m e c
 unfolding firing_of fired_of replay_from_of end_from_of played_of begun_at end replay
 fire_replayed s m e c h =
-    let k = on_fine s m (λ n. refused_or (firing_stopped of_table (stopping (net_of s) (marking m) e)) (Fine (net_of s).conditions)) c h in
+    let k = on_fine s m (λ n. refused_or (firing_stopped of_table (stopping (net_of s) (marking m) e)) (Ok (net_of s).conditions)) c h in
     let (o, v) = stopped_fine (stopping (net_of s) (marking m) e) (net_of s).conditions c k.goes in
     let count : length m ≡ (net_of s).conditions = k.long ∙ conditions_are_all s k.events k.judged in
     let short : too_long (e ∷ []) ≡ none = length_short (e ∷ []) (omega arith) in
     let free : stuck of_table (replay (net_of s) 0 (begun_at (net_of s) (marking m)) (e ∷ [])) ≡ none
     = ap (stuck of_table) (replay_go (net_of s) 0 (begun_at (net_of s) (marking m)) e [] o) in
     let fits = fitting_room (net_of s).conditions (length m) (omega arith) in
-    let played : played_of (net_of s) (begun_at (net_of s) (marking m)) (e ∷ []) (length m) ≡ refused_or (firing_stopped of_table (stopping (net_of s) (marking m) e)) (Fine (net_of s).conditions)
+    let played : played_of (net_of s) (begun_at (net_of s) (marking m)) (e ∷ []) (length m) ≡ refused_or (firing_stopped of_table (stopping (net_of s) (marking m) e)) (Ok (net_of s).conditions)
     = rw (short, free, o) fits in
     let all : List ℕ = bytes (net_of s).conditions (fire (net_of s) (marking m) e) in
     let size = length_bytes (net_of s).conditions (fire (net_of s) (marking m) e) in
-    let answer : replay_from_of s m (e ∷ []) (length m) ≡ Fine c
+    let answer : replay_from_of s m (e ∷ []) (length m) ≡ Ok c
     = ap (λ (x : Judged). on_marking s m (λ n. x)) played ∙ h in
     record {
       answer = answer;

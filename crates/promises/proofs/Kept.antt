@@ -8,8 +8,8 @@ use lib.Dec.{T}
 use lib.ListN.{length}
 use Rattle.lists.specs.Lists.{mem}
 use Rattle.refusal.specs.declared.Refusal.{Refusal}
-use Rattle.refusal.specs.declared.Judged.{Judged}
-use Rattle.refusal.specs.declared.Judged.TheVariants.{Refused}
+use Rattle.refusal.specs.Answer.{Judged}
+use Rattle.std.specs.Prelude.{Err}
 use Rattle.refusal.specs.Answer.{written}
 use Rattle.table.specs.Decoded.{net_of}
 use Rattle.parts.specs.Asked.{asked_of, asked_condition_of, persistence_number}
@@ -82,20 +82,20 @@ use Rattle.ends.proofs.unfolded_replay.Reads as unfolded-replay
 leaves_refused : (numbers : List ℕ) (r answer : Judged) (new old out : List ℕ) → r ≡ answer → T (listed numbers answer) → out ≡ leaves answer new old → Refusing numbers r old out
 leaves_refused numbers r answer new old out e t f = record { number = rw e t; kept = λ x g. f ∙ kept (sym e ∙ g) }
   where
-    kept : {x : Refusal} → answer ≡ Refused x → leaves answer new old ≡ old
+    kept : {x : Refusal} → answer ≡ Err x → leaves answer new old ≡ old
     kept g = rw g
 
 pub written_refused : (numbers : List ℕ) (r answer : Judged) (new old out : List ℕ) → r ≡ answer → T (listed numbers answer) → out ≡ written answer new old → Refusing numbers r old out
 written_refused numbers r answer new old out e t f = record { number = rw e t; kept = λ x g. f ∙ kept (sym e ∙ g) }
   where
-    kept : {x : Refusal} → answer ≡ Refused x → written answer new old ≡ old
+    kept : {x : Refusal} → answer ≡ Err x → written answer new old ≡ old
     kept g = rw g
 
 -- the same where it is told by the answer itself
 pub late_refused : (numbers : List ℕ) (r answer : Judged) (new old out : List ℕ) → r ≡ answer → T (listed numbers answer) → out ≡ written r new old → Refusing numbers r old out
 late_refused numbers r answer new old out e t f = record { number = rw e t; kept = λ x g. f ∙ kept g }
   where
-    kept : {x : Refusal} → r ≡ Refused x → written r new old ≡ old
+    kept : {x : Refusal} → r ≡ Err x → written r new old ≡ old
     kept g = rw g
 
 -- ---- a table asked

@@ -12,11 +12,12 @@ use Rattle.lists.proofs.Bools.{and_right, and_both, or_left, or_right}
 use Rattle.model.specs.Unfolding.{UnfoldedCondition, ordinary, copy, basic}
 use Rattle.model.specs.Across as model
 use Rattle.model.specs.Across.{unfolding_refused}
-use Rattle.refusal.specs.declared.By.{By}
-use Rattle.refusal.specs.declared.By.TheVariants.{Nothing, Table, Unfolded}
+use Rattle.refusal.specs.Answer.{By}
+use Rattle.std.specs.Prelude.{None, Some}
+use Rattle.refusal.specs.declared.Condition.TheVariants.{Table, Unfolded}
 use Rattle.refusal.specs.declared.Refusal.{Refusal}
-use Rattle.refusal.specs.declared.Judged.{Judged}
-use Rattle.refusal.specs.declared.Judged.TheVariants.{Fine, Refused}
+use Rattle.refusal.specs.Answer.{Judged}
+use Rattle.std.specs.Prelude.{Ok, Err}
 use Rattle.refusal.specs.Answer.{number_of, by_of, and_then, written}
 use Rattle.refusal.proofs.Chain.{never_both}
 use Rattle.table.specs.Walk.{judge_of}
@@ -98,69 +99,69 @@ told_by_lem numbers a r e t f =
     ap (λ (z : Answer). z.by) e ∙ go a t (λ m. f (subst (λ (k : ℕ). T (mem k by_condition)) (sym (ap (λ (z : Answer). z.number) e)) m))
   where
     none_named : (b : By) (m : Bool) → T (same m (naming b)) → (T m → ⊥) → by_number b ≡ 0
-    none_named Nothing m t f = refl
-    none_named (Table b) true t f = absurd (f tt)
-    none_named (Table b) false t f = absurd t
-    none_named (Unfolded b) true t f = absurd (f tt)
-    none_named (Unfolded b) false t f = absurd t
+    none_named None m t f = refl
+    none_named (Some (Table b)) true t f = absurd (f tt)
+    none_named (Some (Table b)) false t f = absurd t
+    none_named (Some (Unfolded b)) true t f = absurd (f tt)
+    none_named (Some (Unfolded b)) false t f = absurd t
 
     go : (a : Judged) → T (listed numbers a) → (T (mem (number_of a) by_condition) → ⊥) → by_number (by_of a) ≡ 0
-    go (Fine v) t f = refl
-    go (Refused x) t f = none_named x.by (mem x.number by_condition) (and_right (mem x.number numbers) (named x) t) f
+    go (Ok v) t f = refl
+    go (Err x) t f = none_named x.by (mem x.number by_condition) (and_right (mem x.number numbers) (named x) t) f
 
-told_refused : (numbers : List ℕ) (a : Judged) (r : Answer) {Kept : Type 0} → r ≡ answer_of a → T (listed numbers a) → ((x : Refusal) → a ≡ Refused x → Kept) → Telling numbers r Kept
+told_refused : (numbers : List ℕ) (a : Judged) (r : Answer) {Kept : Type 0} → r ≡ answer_of a → T (listed numbers a) → ((x : Refusal) → a ≡ Err x → Kept) → Telling numbers r Kept
 unfolding answer_of
-told_refused numbers (Fine v) r e t k = record { number = told_listed numbers (Fine v) r e t; by = told_by_lem numbers (Fine v) r e t; kept = λ f. absurd (f (ap (λ (z : Answer). z.number) e)) }
-told_refused numbers (Refused x) r e t k = record { number = told_listed numbers (Refused x) r e t; by = told_by_lem numbers (Refused x) r e t; kept = λ f. k x refl }
+told_refused numbers (Ok v) r e t k = record { number = told_listed numbers (Ok v) r e t; by = told_by_lem numbers (Ok v) r e t; kept = λ f. absurd (f (ap (λ (z : Answer). z.number) e)) }
+told_refused numbers (Err x) r e t k = record { number = told_listed numbers (Err x) r e t; by = told_by_lem numbers (Err x) r e t; kept = λ f. k x refl }
 
 -- ---- what is lent, where the answer is a refusal
 
-written_kept : (a : Judged) (new old out : List ℕ) {x : Refusal} → out ≡ written a new old → a ≡ Refused x → out ≡ old
+written_kept : (a : Judged) (new old out : List ℕ) {x : Refusal} → out ≡ written a new old → a ≡ Err x → out ≡ old
 written_kept a new old out f g = f ∙ ap (λ (z : Judged). written z new old) g
 
-leaves_kept : (a : Judged) (new old out : List ℕ) {x : Refusal} → out ≡ leaves a new old → a ≡ Refused x → out ≡ old
+leaves_kept : (a : Judged) (new old out : List ℕ) {x : Refusal} → out ≡ leaves a new old → a ≡ Err x → out ≡ old
 leaves_kept a new old out f g = f ∙ ap (λ (z : Judged). leaves z new old) g
 
-value_kept : (a : Judged) (old out : ℕ) {x : Refusal} → out ≡ value_or a old → a ≡ Refused x → out ≡ old
+value_kept : (a : Judged) (old out : ℕ) {x : Refusal} → out ≡ value_or a old → a ≡ Err x → out ≡ old
 unfolding value_or
 value_kept a old out f g = f ∙ ap (λ (z : Judged). value_or z old) g
 
-given_kept : (a : Judged) (new old out : ℕ) {x : Refusal} → out ≡ given a new old → a ≡ Refused x → out ≡ old
+given_kept : (a : Judged) (new old out : ℕ) {x : Refusal} → out ≡ given a new old → a ≡ Err x → out ≡ old
 unfolding given
 given_kept a new old out f g = f ∙ ap (λ (z : Judged). given z new old) g
 
 -- the first of two counts, where the second is refused
-counted_kept : (a : Judged) (v w old out : ℕ) {x : Refusal} → out ≡ value_or (and_then a (λ _. Fine v)) old → and_then a (λ _. Fine w) ≡ Refused x → out ≡ old
+counted_kept : (a : Judged) (v w old out : ℕ) {x : Refusal} → out ≡ value_or (and_then a (λ _. Ok v)) old → and_then a (λ _. Ok w) ≡ Err x → out ≡ old
 unfolding value_or
-counted_kept (Fine n) v w old out f g = never_both g
-counted_kept (Refused y) v w old out f g = f
+counted_kept (Ok n) v w old out f g = never_both g
+counted_kept (Err y) v w old out f g = f
 
-unfolded_kept : (s : List ℕ) (v w old out : ℕ) {x : Refusal} → out ≡ value_or (unfolding_of s (Fine v)) old → unfolding_of s (Fine w) ≡ Refused x → out ≡ old
+unfolded_kept : (s : List ℕ) (v w old out : ℕ) {x : Refusal} → out ≡ value_or (unfolding_of s (Ok v)) old → unfolding_of s (Ok w) ≡ Err x → out ≡ old
 unfolding value_or unfolding_of
 unfolded_kept s v w old out f g = go (judge_of s) (unfolding_refused (net_of s)) f g
   where
-    go : (a : Judged) (o : Option model.Refusal) {x : Refusal} → out ≡ value_or (and_then a (λ _. refused_or o (Fine v))) old → and_then a (λ _. refused_or o (Fine w)) ≡ Refused x → out ≡ old
-    go (Refused y) o f g = f
-    go (Fine n) (some y) f g = f
-    go (Fine n) none f g = never_both g
+    go : (a : Judged) (o : Option model.Refusal) {x : Refusal} → out ≡ value_or (and_then a (λ _. refused_or o (Ok v))) old → and_then a (λ _. refused_or o (Ok w)) ≡ Err x → out ≡ old
+    go (Err y) o f g = f
+    go (Ok n) (some y) f g = f
+    go (Ok n) none f g = never_both g
 
 -- what stands behind an unfolded condition
-condition_kept : (o : ConditionOrigin) (old out : ℕ) {x : Refusal} → out ≡ condition_or o old → origin_answer o ≡ Refused x → out ≡ old
+condition_kept : (o : ConditionOrigin) (old out : ℕ) {x : Refusal} → out ≡ condition_or o old → origin_answer o ≡ Err x → out ≡ old
 condition_kept (show.Ordinary b) old out f g = never_both g
 condition_kept (show.Copy b m u) old out f g = never_both g
 condition_kept (show.Refused y) old out f g = f
 
-copy_kept : (o : ConditionOrigin) (old out : Bool) {x : Refusal} → out ≡ copy_or o old → origin_answer o ≡ Refused x → out ≡ old
+copy_kept : (o : ConditionOrigin) (old out : Bool) {x : Refusal} → out ≡ copy_or o old → origin_answer o ≡ Err x → out ≡ old
 copy_kept (show.Ordinary b) old out f g = never_both g
 copy_kept (show.Copy b m u) old out f g = never_both g
 copy_kept (show.Refused y) old out f g = f
 
-marker_kept : (o : ConditionOrigin) (old out : ℕ) {x : Refusal} → out ≡ marker_or o old → origin_answer o ≡ Refused x → out ≡ old
+marker_kept : (o : ConditionOrigin) (old out : ℕ) {x : Refusal} → out ≡ marker_or o old → origin_answer o ≡ Err x → out ≡ old
 marker_kept (show.Ordinary b) old out f g = f
 marker_kept (show.Copy b m u) old out f g = never_both g
 marker_kept (show.Refused y) old out f g = f
 
-user_kept : (o : ConditionOrigin) (old out : ℕ) {x : Refusal} → out ≡ user_or o old → origin_answer o ≡ Refused x → out ≡ old
+user_kept : (o : ConditionOrigin) (old out : ℕ) {x : Refusal} → out ≡ user_or o old → origin_answer o ≡ Err x → out ≡ old
 user_kept (show.Ordinary b) old out f g = f
 user_kept (show.Copy b m u) old out f g = never_both g
 user_kept (show.Refused y) old out f g = f
@@ -182,9 +183,9 @@ unfolding condition_origin_of condition_judged
 origin_listed s i = go (condition_judged s i) (condition_at (net_of s) i) (unfolding_of_listed of_numbering s _ tt (listed_need of_numbering _ 10 0 _ tt tt))
   where
     go : (a : Judged) (p : UnfoldedCondition) → T (listed of_numbering a) → T (listed of_numbering (origin_answer (told_if a p)))
-    go (Fine k) (ordinary b) t = tt
-    go (Fine k) (copy b m u) t = tt
-    go (Refused x) p t = t
+    go (Ok k) (ordinary b) t = tt
+    go (Ok k) (copy b m u) t = tt
+    go (Err x) p t = t
 
 condition_for_listed : (s : List ℕ) (b : ℕ) (copied : Bool) (m u : ℕ) → T (listed of_numbering (condition_for s b copied m u))
 unfolding condition_for numbered
@@ -194,15 +195,15 @@ condition_for_listed s b copied m u =
 -- ---- what turns answers
 
 -- an answer that names a condition as the calls do is refused with its own number
-own_refused : (l : List ℕ) (x : Refusal) → T (named x) → T (listed (x.number ∷ l) (Refused x))
+own_refused : (l : List ℕ) (x : Refusal) → T (named x) → T (listed (x.number ∷ l) (Err x))
 own_refused l x n =
     and_both (mem x.number (x.number ∷ l)) (named x) (or_left (eqb x.number x.number) (mem x.number l) (eqb_refl x.number)) n
 
-own_listed : (l : List ℕ) (a : Judged) → ((y : Refusal) → a ≡ Refused y → T (named y)) → T (listed (number_of a ∷ l) a)
-own_listed l (Fine v) n = tt
-own_listed l (Refused x) n = own_refused l x (n x refl)
+own_listed : (l : List ℕ) (a : Judged) → ((y : Refusal) → a ≡ Err y → T (named y)) → T (listed (number_of a ∷ l) a)
+own_listed l (Ok v) n = tt
+own_listed l (Err x) n = own_refused l x (n x refl)
 
-pub put_markers_refused : (κs : _) (a : _) (r : _) (x : _) → put-markers.Learnt κs a r x → ((y : Refusal) → a.0.answer ≡ Refused y → T (named y))
+pub put_markers_refused : (κs : _) (a : _) (r : _) (x : _) → put-markers.Learnt κs a r x → ((y : Refusal) → a.0.answer ≡ Err y → T (named y))
     → Refusing (number_of a.0.answer ∷ 16 ∷ []) r a.1.0.now x.1.0.now
 unfolding markers_of markers_into
 put_markers_refused κs a r x h n =
@@ -228,7 +229,7 @@ dovetrellis_judge_refused κs a r x h = told_listed of_table (judge_of a.0.now) 
 
 pub dovetrellis_counts_refused : (κs : _) (a : _) (r : _) (x : _) → dovetrellis-counts.Learnt κs a r x → Telling of_table r ((x.1.0.now ≡ a.1.0.now) × (x.1.1.0.now ≡ a.1.1.0.now))
 dovetrellis_counts_refused κs a r x h =
-    told_refused of_table (and_then (judge_of a.0.now) (λ _. Fine (net_of a.0.now).events)) r h.0 (judged_listed of_table a.0.now _ tt (λ n. tt)) (λ y g. (counted_kept (judge_of a.0.now) _ (net_of a.0.now).events a.1.0.now x.1.0.now h.1.0 g, value_kept _ a.1.1.0.now x.1.1.0.now h.1.1 g))
+    told_refused of_table (and_then (judge_of a.0.now) (λ _. Ok (net_of a.0.now).events)) r h.0 (judged_listed of_table a.0.now _ tt (λ n. tt)) (λ y g. (counted_kept (judge_of a.0.now) _ (net_of a.0.now).events a.1.0.now x.1.0.now h.1.0 g, value_kept _ a.1.1.0.now x.1.1.0.now h.1.1 g))
 
 pub dovetrellis_pre_refused : (κs : _) (a : _) (r : _) (x : _) → dovetrellis-pre.Learnt κs a r x → Telling of_list r ((x.1.1.0.now ≡ a.1.1.0.now) × (x.1.1.1.0.now ≡ a.1.1.1.0.now))
 unfolding preconditions_into
@@ -265,7 +266,7 @@ dovetrellis_exchange_refused κs a r x h =
 
 pub dovetrellis_unfolded_counts_refused : (κs : _) (a : _) (r : _) (x : _) → dovetrellis-unfolded-counts.Learnt κs a r x → Telling of_unfolding r ((x.1.0.now ≡ a.1.0.now) × (x.1.1.0.now ≡ a.1.1.0.now))
 dovetrellis_unfolded_counts_refused κs a r x h =
-    told_refused of_unfolding (unfolding_of a.0.now (Fine (basic (net_of a.0.now)).events)) r h.0 (unfolding_of_listed of_unfolding a.0.now _ tt tt) (λ y g. (unfolded_kept a.0.now (basic (net_of a.0.now)).conditions (basic (net_of a.0.now)).events a.1.0.now x.1.0.now h.1.0 g, value_kept _ a.1.1.0.now x.1.1.0.now h.1.1 g))
+    told_refused of_unfolding (unfolding_of a.0.now (Ok (basic (net_of a.0.now)).events)) r h.0 (unfolding_of_listed of_unfolding a.0.now _ tt tt) (λ y g. (unfolded_kept a.0.now (basic (net_of a.0.now)).conditions (basic (net_of a.0.now)).events a.1.0.now x.1.0.now h.1.0 g, value_kept _ a.1.1.0.now x.1.1.0.now h.1.1 g))
 
 pub dovetrellis_event_origin_refused : (κs : _) (a : _) (r : _) (x : _) → dovetrellis-event-origin.Learnt κs a r x → Telling of_listing r ((x.1.1.0.now ≡ a.1.1.0.now) × (x.1.1.1.0.now ≡ a.1.1.1.0.now) × (x.1.1.1.1.0.now ≡ a.1.1.1.1.0.now))
 unfolding markers_into

@@ -19,8 +19,8 @@ use Rattle.model.proofs.Lent.{length_bytes, bytes_at}
 use Rattle.model.proofs.Answers.{stuck_none, short_length, length_short}
 use Rattle.model.proofs.Own.{none_again}
 use Rattle.model.proofs.Demands.{lift_exactly, lift_lifts, lift_length}
-use Rattle.refusal.specs.declared.Judged.{Judged}
-use Rattle.refusal.specs.declared.Judged.TheVariants.{Fine, Refused}
+use Rattle.refusal.specs.Answer.{Judged}
+use Rattle.std.specs.Prelude.{Ok, Err}
 use Rattle.refusal.specs.Answer.{fitting, written}
 use Rattle.refusal.proofs.Chain.{then_fine, fitting_fine}
 use Rattle.table.specs.Walk.{judge_of}
@@ -46,7 +46,7 @@ zero_bit true e = absurd (omega arith)
 zero_bit false e = refl
 
 -- a call that was worked had room for its bytes, and wrote them to the front
-pub lossless : (s out : List ℕ) (c : ℕ) → lossy_of s (length out) ≡ Fine c → NoneLossy c (lossy_into s out) → Lossless (net_of s)
+pub lossless : (s out : List ℕ) (c : ℕ) → lossy_of s (length out) ≡ Ok c → NoneLossy c (lossy_into s out) → Lossless (net_of s)
 unfolding lossy_of lossy_into
 lossless s out c h zeros e below =
     let (n, j, f) = then_fine (judge_of s) (λ n. fitting (net_of s).events (length out)) c h in
@@ -58,21 +58,21 @@ lossless s out c h zeros e below =
     zero_bit (lossy (net_of s) e) (byte ∙ zeros e (omega (arith, below, all)))
 
 -- Nothing is lost of a table whose lossy events were told to be none.
-pub nothing_lost : (s out : List ℕ) (c : ℕ) → lossy_of s (length out) ≡ Fine c → NoneLossy c (lossy_into s out) → NothingLost s
+pub nothing_lost : (s out : List ℕ) (c : ℕ) → lossy_of s (length out) ≡ Ok c → NoneLossy c (lossy_into s out) → NothingLost s
 nothing_lost s out c h zeros r t = run_saved (net_of s) (lossless s out c h zeros) r t
 
 -- ---- the same of the calls
 
 pub lossy_nothing_lost : (κs : _) (a : _) (r : _) (x : _) → lossy-call.Learnt κs a r x
-    → (c : ℕ) → r ≡ Fine c → NoneLossy c x.1.0.now → NothingLost a.0.now
+    → (c : ℕ) → r ≡ Ok c → NoneLossy c x.1.0.now → NothingLost a.0.now
 lossy_nothing_lost κs a r x h c fine zeros =
     nothing_lost a.0.now a.1.0.now c (sym h.0 ∙ fine) (subst (NoneLossy c) h.1 zeros)
 
 -- an answer for C with number 0 is a fine one
-told_fine : (a : Judged) (r : Answer) → r ≡ answer_of a → T (listed of_lossy a) → r.number ≡ 0 → (c : ℕ) × (a ≡ Fine c)
+told_fine : (a : Judged) (r : Answer) → r ≡ answer_of a → T (listed of_lossy a) → r.number ≡ 0 → (c : ℕ) × (a ≡ Ok c)
 unfolding answer_of
-told_fine (Fine c) r e t z = (c, refl)
-told_fine (Refused x) r e t z =
+told_fine (Ok c) r e t z = (c, refl)
+told_fine (Err x) r e t z =
     let zero : x.number ≡ 0 = sym (ap (λ (y : Answer). y.number) e) ∙ z in
     absurd (subst (λ (k : ℕ). T (mem k of_lossy)) zero (and_left (mem x.number of_lossy) (named x) t))
 
@@ -96,8 +96,8 @@ kept_few n m (e ∷ r) kept (inl (same, q)) = omega (arith, kept_few n m r kept 
 kept_few n m (e ∷ r) kept (inr (rest, first, q)) = omega (arith, kept_few n (fire n m e) r rest q, ap length first)
 
 -- What is kept of a run that replay accepts is replayed alike, and lifts.
-pub kept_lifts : (s out : List ℕ) (c : ℕ) → lossy_of s (length out) ≡ Fine c → NoneLossy c (lossy_into s out)
-    → (r end_out : List ℕ) (d : ℕ) → replay_of s r (length end_out) ≡ Fine d → unfolding_refused (net_of s) ≡ none → KeptLifts s r end_out
+pub kept_lifts : (s out : List ℕ) (c : ℕ) → lossy_of s (length out) ≡ Ok c → NoneLossy c (lossy_into s out)
+    → (r end_out : List ℕ) (d : ℕ) → replay_of s r (length end_out) ≡ Ok d → unfolding_refused (net_of s) ≡ none → KeptLifts s r end_out
 unfolding replay_of end_of played_of opening
 kept_lifts s out c h zeros r end_out d played unfolds =
     let (n, j, f) = then_fine (judge_of s) _ d played in
@@ -119,5 +119,5 @@ kept_lifts s out c h zeros r end_out d played unfolds =
       answer = same;
       same_end = ap (λ (x : Judged). written x (bytes (net_of s).conditions (end (net_of s) (begin (net_of s)) kept)) end_out) same
           ∙ ap (λ (m : Marking). written (replay_of s r (length end_out)) (bytes (net_of s).conditions m) end_out) saved.trimmed.same_end;
-      lifts = λ room fits. lift_given s n j kept w room lifted (omega (arith, fits, long)) ∙ ap Fine long;
+      lifts = λ room fits. lift_given s n j kept w room lifted (omega (arith, fits, long)) ∙ ap Ok long;
     }

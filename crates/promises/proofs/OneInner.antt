@@ -15,7 +15,7 @@ use Rattle.model.specs.Lent.{bytes}
 use Rattle.model.specs.Numbering.{size, width, event_count}
 use Rattle.held.specs.Held.{bit_of, held_in}
 use Rattle.held.proofs.Bits.{halved}
-use Rattle.refusal.specs.declared.Judged.{Judged}
+use Rattle.refusal.specs.Answer.{Judged}
 use Rattle.refusal.specs.Answer.{written}
 use Rattle.table.specs.Walk.{offset_of}
 use Rattle.table.specs.Decoded.{net_of}

@@ -25,8 +25,8 @@ use Rattle.model.proofs.Unfolded.{origin_in}
 use Rattle.model.proofs.Lent.{length_bytes, begun_marking}
 use Rattle.model.proofs.Sets.{conditions_paper, colours_paper, colours_all, colours_one, pre_paper}
 use Rattle.model.proofs.Sets.{post_paper, start_paper, lists_ascend, Names, named_one, basic_sound}
-use Rattle.refusal.specs.declared.Judged.{Judged}
-use Rattle.refusal.specs.declared.Judged.TheVariants.{Fine, Refused}
+use Rattle.refusal.specs.Answer.{Judged}
+use Rattle.std.specs.Prelude.{Ok, Err}
 use Rattle.refusal.specs.Answer.{need, fitting, written}
 use Rattle.refusal.proofs.Chain.{need_passes, need_fine, fitting_fine, written_front}
 use Rattle.table.specs.Decoded.{net_of}
@@ -69,14 +69,14 @@ same_choice n e c d is h =
     )
 
 answer_is : (a : Judged) (x : UnfoldedEvent) → (origin_if a x).answer ≡ a
-answer_is (Fine k) x = refl
-answer_is (Refused r) x = refl
+answer_is (Ok k) x = refl
+answer_is (Err r) x = refl
 
 -- ---- a table that unfolds
 
 module _ (s : List ℕ) (u : (own : Judged) → unfolding_of s own ≡ own) where
   tabled_net : Tabled (net_of s)
-  tabled_net = let j = unfolds_judged s (Fine 0) 0 (sym (u (Fine 0))) refl in tabled s j.0 j.1
+  tabled_net = let j = unfolds_judged s (Ok 0) 0 (sym (u (Ok 0))) refl in tabled s j.0 j.1
 
   -- ---- conditions
 
@@ -84,13 +84,13 @@ module _ (s : List ℕ) (u : (own : Judged) → unfolding_of s own ≡ own) wher
   pub stands_at : (i : ℕ) (p : UnfoldedCondition) → StandsAt s i p → get_elem? (unfolded_conditions (net_of s)) i ≡ some p
   unfolding condition_origin_of condition_judged condition_at need basic
   stands_at i p h =
-      let own = need (ltb i (basic (net_of s)).conditions) 10 0 (Fine i) in
+      let own = need (ltb i (basic (net_of s)).conditions) 10 0 (Ok i) in
       go (ltb i (basic (net_of s)).conditions) refl (ap (λ (x : Judged). origin_value (told_if x q)) (sym (u own)) ∙ h)
     where
       q : UnfoldedCondition
       q = condition_at (net_of s) i
 
-      go : (t : Bool) → ltb i (basic (net_of s)).conditions ≡ t → origin_value (told_if (need t 10 0 (Fine i)) q) ≡ some p
+      go : (t : Bool) → ltb i (basic (net_of s)).conditions ≡ t → origin_value (told_if (need t 10 0 (Ok i)) q) ≡ some p
           → get_elem? (unfolded_conditions (net_of s)) i ≡ some p
       go false e v = absurd (let z : ◌≡◌ {A = ℕ} 0 1 = cc v in omega arith)
       go true e v =
@@ -101,7 +101,7 @@ module _ (s : List ℕ) (u : (own : Judged) → unfolding_of s own ≡ own) wher
   unfolding condition_origin_of condition_judged condition_at basic
   at_stands i p h =
       let low = lt-ltb i (length (unfolded_conditions (net_of s))) (at_lt (unfolded_conditions (net_of s)) i h) in
-      let fine : condition_judged s i ≡ Fine i = u (need (ltb i (basic (net_of s)).conditions) 10 0 (Fine i)) ∙ need_passes 10 0 low in
+      let fine : condition_judged s i ≡ Ok i = u (need (ltb i (basic (net_of s)).conditions) 10 0 (Ok i)) ∙ need_passes 10 0 low in
       ap (λ (x : Judged). origin_value (told_if x (condition_at (net_of s) i))) fine
       ∙ ap (λ (x : UnfoldedCondition). origin_value (told x)) (at_get_d (unfolded_conditions (net_of s)) i (ordinary 0) h)
       ∙ value_told p
@@ -133,11 +133,11 @@ module _ (s : List ℕ) (u : (own : Judged) → unfolding_of s own ≡ own) wher
     there : origin (net_of s) j ∈ unfolded_events (net_of s)
     there = origin_in (net_of s) j (T_of (ltb j (basic (net_of s)).events) low)
 
-    told_whole : origin_of s j ≡ origin_if (Fine (length (origin (net_of s) j).colour)) (origin (net_of s) j)
+    told_whole : origin_of s j ≡ origin_if (Ok (length (origin (net_of s) j).colour)) (origin (net_of s) j)
     unfolding origin_of origin_judged
     told_whole =
         ap (λ (x : Judged). origin_if x (origin (net_of s) j))
-        (u (need (ltb j (basic (net_of s)).events) 10 0 (Fine (length (origin (net_of s) j).colour))) ∙ need_passes 10 0 low)
+        (u (need (ltb j (basic (net_of s)).events) 10 0 (Ok (length (origin (net_of s) j).colour))) ∙ need_passes 10 0 low)
 
     told_event : event_at s j ≡ (origin (net_of s) j).event
     told_event = ap (λ (x : EventOrigin). x.event.0) told_whole
@@ -157,12 +157,12 @@ module _ (s : List ℕ) (u : (own : Judged) → unfolding_of s own ≡ own) wher
         (subst (λ (e : ℕ). E' (net_of s) e (chosen (net_of s) x)) (sym told_event) (colours_paper (net_of s) tabled_net.sound x there))
 
   -- a number of which something is told is that of an unfolded event
-  low_of : (j k : ℕ) → (origin_of s j).answer ≡ Fine k → ltb j (basic (net_of s)).events ≡ true
+  low_of : (j k : ℕ) → (origin_of s j).answer ≡ Ok k → ltb j (basic (net_of s)).events ≡ true
   unfolding origin_of origin_judged
   low_of j k e =
-      let own = need (ltb j (basic (net_of s)).events) 10 0 (Fine (length (origin (net_of s) j).colour)) in
-      let fine : own ≡ Fine k = sym (u own) ∙ sym (answer_is (origin_judged s j) (origin (net_of s) j)) ∙ e in
-      (need_fine (ltb j (basic (net_of s)).events) 10 0 k (Fine (length (origin (net_of s) j).colour)) fine).0
+      let own = need (ltb j (basic (net_of s)).events) 10 0 (Ok (length (origin (net_of s) j).colour)) in
+      let fine : own ≡ Ok k = sym (u own) ∙ sym (answer_is (origin_judged s j) (origin (net_of s) j)) ∙ e in
+      (need_fine (ltb j (basic (net_of s)).events) 10 0 k (Ok (length (origin (net_of s) j).colour)) fine).0
 
   events_numbered : EventsNumbered s (basic (net_of s)).events
   unfolding basic number_of
@@ -190,11 +190,11 @@ module _ (s : List ℕ) (u : (own : Judged) → unfolding_of s own ≡ own) wher
           record { count = _; answer = ap (λ (x : EventOrigin). x.answer) (told_whole j low); event = refl; same = λ b k. (λ x. x, λ x. x) }
 
       given : (e : ℕ) (d : Colour) (j : ℕ) → j < (basic (net_of s)).events → event_at s j ≡ e → colour_of (origin_of s j).colour ≡ colour_of d
-          → number_of s e d ≡ Fine j
+          → number_of s e d ≡ Ok j
       given e d j h q r =
           let t = told_here j (lt-ltb j (basic (net_of s)).events h) in
           let at : ℕ → List Marker → ℕ = λ x c. number (net_of s) (record { event = x; colour = c }) in
-          ap₂ (λ (x : ℕ) (c : List Marker). unfolding_of s (need (ltb (at x c) (basic (net_of s)).events) 10 0 (Fine (at x c)))) (sym q) (sym r)
+          ap₂ (λ (x : ℕ) (c : List Marker). unfolding_of s (need (ltb (at x c) (basic (net_of s)).events) 10 0 (Ok (at x c)))) (sym q) (sym r)
           ∙ event_back s j t.count t.answer
 
       found : (x : UnfoldedEvent) → x ∈ unfolded_events (net_of s) → (e : ℕ) (d : ℕ → Marker → Type 0) → x.event ≡ e
@@ -226,14 +226,14 @@ module _ (s : List ℕ) (u : (own : Judged) → unfolding_of s own ≡ own) wher
           sym (number_origin (net_of s) j a) ∙ ap (number (net_of s)) same ∙ number_origin (net_of s) i z
 
 -- Where the unfolding is counted, its numbers are those of B' and of E'.
-pub conditions_paper_numbered : (s : List ℕ) (c : ℕ) → condition_count_of s ≡ Fine c → ConditionsNumbered s c
+pub conditions_paper_numbered : (s : List ℕ) (c : ℕ) → condition_count_of s ≡ Ok c → ConditionsNumbered s c
 conditions_paper_numbered s c h =
-    let o = prefix_passed s (Fine (basic (net_of s)).conditions) c h in
+    let o = prefix_passed s (Ok (basic (net_of s)).conditions) c h in
     subst (ConditionsNumbered s) (fine_same (basic (net_of s)).conditions c o.1) (conditions_numbered s o.0)
 
-pub events_paper_numbered : (s : List ℕ) (c : ℕ) → event_count_of s ≡ Fine c → EventsNumbered s c
+pub events_paper_numbered : (s : List ℕ) (c : ℕ) → event_count_of s ≡ Ok c → EventsNumbered s c
 events_paper_numbered s c h =
-    let o = prefix_passed s (Fine (basic (net_of s)).events) c h in
+    let o = prefix_passed s (Ok (basic (net_of s)).events) c h in
     subst (EventsNumbered s) (fine_same (basic (net_of s)).events c o.1) (events_numbered s o.0)
 
 -- ---- the lists of an unfolded event, and the start
@@ -269,7 +269,7 @@ lists_paper s u post j low =
     }
 
 -- So is what is written of them.
-pub list_paper : (s : List ℕ) (post : Bool) (j : ℕ) (out : List ℕ) (c : ℕ) → unfolded_list_of s post j (length out) ≡ Fine c
+pub list_paper : (s : List ℕ) (post : Bool) (j : ℕ) (out : List ℕ) (c : ℕ) → unfolded_list_of s post j (length out) ≡ Ok c
     → Listed s post j (take c (unfolded_listed_of s post j out))
 unfolding unfolded_list_of unfolded_listed_of
 list_paper s post j out c h =
@@ -283,7 +283,7 @@ list_paper s post j out c h =
     subst (Listed s post j) (sym front) (lists_paper s o.0 post j f.0)
 
 -- What is written of the unfolded start is that of the paper.
-pub started_paper : (s out : List ℕ) (c : ℕ) → unfolded_start_of s (length out) ≡ Fine c → Started s (take c (unfolded_started_of s out))
+pub started_paper : (s out : List ℕ) (c : ℕ) → unfolded_start_of s (length out) ≡ Ok c → Started s (take c (unfolded_started_of s out))
 unfolding unfolded_start_of unfolded_started_of begin
 started_paper s out c h =
     let n = net_of s in

@@ -7,7 +7,7 @@ use lib.ListN.{length, take}
 use Rattle.model.specs.Unfolding.{basic}
 use Rattle.model.specs.Across.{most_steps, unfolding_refused}
 use Rattle.model.specs.Paper.{BasicFires, MixedFires, copied}
-use Rattle.refusal.specs.declared.Judged.TheVariants.{Fine}
+use Rattle.std.specs.Prelude.{Ok}
 use Rattle.records.specs.Records.{old_rule}
 use Rattle.table.specs.Walk.{judge_of}
 use Rattle.table.specs.Decoded.{net_of}
@@ -26,21 +26,21 @@ use Rattle.promises.proofs.PaperSets.{unfolded_fire_sets, unfolded_replay_sets}
 
 -- ---- the counts, the lists and the start
 
-pub condition_count_numbers : (κs : _) (a : _) (r : _) (x : _) → condition-count.Learnt κs a r x → (c : ℕ) → r ≡ Fine c → ConditionsNumbered a.0.now c
+pub condition_count_numbers : (κs : _) (a : _) (r : _) (x : _) → condition-count.Learnt κs a r x → (c : ℕ) → r ≡ Ok c → ConditionsNumbered a.0.now c
 condition_count_numbers κs a r x h c e = conditions_paper_numbered a.0.now c (sym h ∙ e)
 
-pub event_count_numbers : (κs : _) (a : _) (r : _) (x : _) → event-count.Learnt κs a r x → (c : ℕ) → r ≡ Fine c → EventsNumbered a.0.now c
+pub event_count_numbers : (κs : _) (a : _) (r : _) (x : _) → event-count.Learnt κs a r x → (c : ℕ) → r ≡ Ok c → EventsNumbered a.0.now c
 event_count_numbers κs a r x h c e = events_paper_numbered a.0.now c (sym h ∙ e)
 
-pub unfolded_pre_lists : (κs : _) (a : _) (r : _) (x : _) → unfolded-pre.Learnt κs a r x → (c : ℕ) → r ≡ Fine c
+pub unfolded_pre_lists : (κs : _) (a : _) (r : _) (x : _) → unfolded-pre.Learnt κs a r x → (c : ℕ) → r ≡ Ok c
     → Listed a.0.now false a.1.0.0 (take c x.1.1.0.now)
 unfolded_pre_lists κs a r x h c e = rw h.1 (list_paper a.0.now false a.1.0.0 a.1.1.0.now c (sym h.0 ∙ e))
 
-pub unfolded_post_lists : (κs : _) (a : _) (r : _) (x : _) → unfolded-post.Learnt κs a r x → (c : ℕ) → r ≡ Fine c
+pub unfolded_post_lists : (κs : _) (a : _) (r : _) (x : _) → unfolded-post.Learnt κs a r x → (c : ℕ) → r ≡ Ok c
     → Listed a.0.now true a.1.0.0 (take c x.1.1.0.now)
 unfolded_post_lists κs a r x h c e = rw h.1 (list_paper a.0.now true a.1.0.0 a.1.1.0.now c (sym h.0 ∙ e))
 
-pub unfolded_start_holds : (κs : _) (a : _) (r : _) (x : _) → unfolded-start.Learnt κs a r x → (c : ℕ) → r ≡ Fine c
+pub unfolded_start_holds : (κs : _) (a : _) (r : _) (x : _) → unfolded-start.Learnt κs a r x → (c : ℕ) → r ≡ Ok c
     → Started a.0.now (take c x.1.0.now)
 unfolded_start_holds κs a r x h c e = rw h.1 (started_paper a.0.now a.1.0.now c (sym h.0 ∙ e))
 
@@ -57,7 +57,7 @@ module _ (κs : _) (a : _) (r : _) (x : _) (h : unfolded-fire.Learnt κs a r x) 
   pub unfolded_fire_in_sets : FiresBy (in_sets a.0.now) (net_of a.0.now) a.1.0.now a.1.1.0.0 r x.1.0.now
   unfolded_fire_in_sets = rw (h.0, h.1) (unfolded_fire_sets a.0.now a.1.0.now a.1.1.0.0 passes)
 
-module _ (κs : _) (a : _) (r : _) (x : _) (h : unfolded-replay.Learnt κs a r x) (n : ℕ) (j : judge_of a.0.now ≡ Fine n)
+module _ (κs : _) (a : _) (r : _) (x : _) (h : unfolded-replay.Learnt κs a r x) (n : ℕ) (j : judge_of a.0.now ≡ Ok n)
     (unfolds : unfolding_refused (net_of a.0.now) ≡ none) (short : length a.1.0.now ≤ most_steps)
     (room : (basic (net_of a.0.now)).conditions ≤ length a.1.1.0.now) where
   pub unfolded_replay_by_paper : old_rule a.0.now ≡ false → ReplaysBy BasicFires (net_of a.0.now) a.1.0.now r x.1.1.0.now

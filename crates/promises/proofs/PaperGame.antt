@@ -23,8 +23,8 @@ use Rattle.model.proofs.Lent.{Tidy, length_bytes, marking_bytes, tidy_marking}
 use Rattle.model.proofs.Sets.{basic_sound}
 use Rattle.model.proofs.Rule.{unfolded_paper, unfolded_old}
 use Rattle.model.proofs.Demands.{project_exactly}
-use Rattle.refusal.specs.declared.Judged.{Judged}
-use Rattle.refusal.specs.declared.Judged.TheVariants.{Fine, Refused}
+use Rattle.refusal.specs.Answer.{Judged}
+use Rattle.std.specs.Prelude.{Ok, Err}
 use Rattle.refusal.specs.Answer.{need, written}
 use Rattle.refusal.proofs.Chain.{need_passes, need_fine, fitting_room, written_front}
 use Rattle.records.specs.Records.{old_rule}
@@ -73,10 +73,10 @@ Plays F n =
     → (T (concession (basic n) m j) × (k ≡ fire (basic n) m j)) ↔ F (basic n) (holding m) j (holding k)
 
 -- which rule that is, by the table's Rule record
-pub plays_paper : (s : List ℕ) (n : ℕ) → judge_of s ≡ Fine n → old_rule s ≡ false → Plays BasicFires (net_of s)
+pub plays_paper : (s : List ℕ) (n : ℕ) → judge_of s ≡ Ok n → old_rule s ≡ false → Plays BasicFires (net_of s)
 plays_paper s n j q m x i low k y = unfolded_paper (net_of s) i m k (λ b. rule_read s n j b ∙ q)
 
-pub plays_old : (s : List ℕ) (n : ℕ) → judge_of s ≡ Fine n → old_rule s ≡ true → Plays (MixedFires (copied (net_of s))) (net_of s)
+pub plays_old : (s : List ℕ) (n : ℕ) → judge_of s ≡ Ok n → old_rule s ≡ true → Plays (MixedFires (copied (net_of s))) (net_of s)
 plays_old s n j q m x i low k y = unfolded_old (net_of s) i m k (λ b. rule_read s n j b ∙ q)
 
 -- ---- one firing
@@ -86,23 +86,23 @@ module _ (s m : List ℕ) (j : ℕ) (passes : Passes (before_unfolded s m)) wher
   c = (basic (net_of s)).conditions
 
   -- what is known of a table and a marking that are accepted
-  pub judged : (n : ℕ) × (judge_of s ≡ Fine n)
-  judged = unfolds_judged s (Fine 0) 0 (sym ((prefix_passed s (lent c m (Fine 0)) 0 passes).0 (Fine 0))) refl
+  pub judged : (n : ℕ) × (judge_of s ≡ Ok n)
+  judged = unfolds_judged s (Ok 0) 0 (sym ((prefix_passed s (lent c m (Ok 0)) 0 passes).0 (Ok 0))) refl
 
   fits : (eqb (length m) c ≡ true) × (leb (length m) (first_above m) ≡ true)
   unfolding lent
   fits =
-      let o = prefix_passed s (lent c m (Fine 0)) 0 passes in
-      let (x, r) = need_fine (eqb (length m) c) 18 c 0 (need (leb (length m) (first_above m)) 18 (first_above m) (Fine 0)) o.1 in
-      (x, (need_fine (leb (length m) (first_above m)) 18 (first_above m) 0 (Fine 0) r).0)
+      let o = prefix_passed s (lent c m (Ok 0)) 0 passes in
+      let (x, r) = need_fine (eqb (length m) c) 18 c 0 (need (leb (length m) (first_above m)) 18 (first_above m) (Ok 0)) o.1 in
+      (x, (need_fine (leb (length m) (first_above m)) 18 (first_above m) 0 (Ok 0) r).0)
 
-  asked : (unfolded_fire_of s m j ≡ Fine c) ↔ (E (basic (net_of s)) j × T (concession (basic (net_of s)) (marking m) j))
+  asked : (unfolded_fire_of s m j ≡ Ok c) ↔ (E (basic (net_of s)) j × T (concession (basic (net_of s)) (marking m) j))
   unfolding unfolded_fire_of lent
   asked =
       let n = basic (net_of s) in
-      let own = refused_or (firing_stopped of_unfolding (stopping n (marking m) j)) (Fine c) in
+      let own = refused_or (firing_stopped of_unfolding (stopping n (marking m) j)) (Ok c) in
       let told : unfolded_fire_of s m j ≡ own
-      = (prefix_passed s (lent c m (Fine 0)) 0 passes).0 (lent c m own) ∙ need_passes 18 c fits.0 ∙ need_passes 18 (first_above m) fits.1 in
+      = (prefix_passed s (lent c m (Ok 0)) 0 passes).0 (lent c m own) ∙ need_passes 18 c fits.0 ∙ need_passes 18 (first_above m) fits.1 in
       let free = unstopped of_unfolding (stopping n (marking m) j) c in (
         λ e.
             let can = none_can n (marking m) j (free.0 (sym told ∙ e)) in
@@ -124,8 +124,8 @@ module _ (s m : List ℕ) (j : ℕ) (passes : Passes (before_unfolded s m)) wher
   left_long = go (unfolded_fire_of s m j)
     where
       go : (a : Judged) → length (leaves a (bytes c (fire (basic (net_of s)) (marking m) j)) m) ≡ c
-      go (Fine v) = length_bytes c (fire (basic (net_of s)) (marking m) j)
-      go (Refused x) = long
+      go (Ok v) = length_bytes c (fire (basic (net_of s)) (marking m) j)
+      go (Err x) = long
 
   pub fires_by : (F : Rule) → Plays F (net_of s) → FiresBy F (net_of s) m j (unfolded_fire_of s m j) (unfolded_fired_of s m j)
   fires_by F is =
@@ -185,7 +185,7 @@ end_inside n d m (e ∷ r) t h =
     end_inside n d (fire n m e) r (runs_rest n m e r t) (fire_inside n d m h e low)
 
 -- what is written of the end of a run, read again, is that end
-pub written_end : (n : Net) → Sound n → (r : List ℕ) → T (runs n (begin n) r) → (a : Judged) (v : ℕ) (out : List ℕ) → a ≡ Fine v
+pub written_end : (n : Net) → Sound n → (r : List ℕ) → T (runs n (begin n) r) → (a : Judged) (v : ℕ) (out : List ℕ) → a ≡ Ok v
     → marking (take n.conditions (written a (bytes n.conditions (end n (begin n) r)) out)) ≡ end n (begin n) r
 written_end n d r t a v out e =
     let last = end n (begin n) r in
@@ -194,9 +194,9 @@ written_end n d r t a v out e =
     ∙ ap marking (written_front a v all out e)
     ∙ marking_bytes n.conditions last (inside_tidy n last (end_inside n d (begin n) r t (begin_inside n d)))
 
-module _ (s w out : List ℕ) (n : ℕ) (j : judge_of s ≡ Fine n) (unfolds : unfolding_refused (net_of s) ≡ none) (short : length w ≤ most_steps)
+module _ (s w out : List ℕ) (n : ℕ) (j : judge_of s ≡ Ok n) (unfolds : unfolding_refused (net_of s) ≡ none) (short : length w ≤ most_steps)
     (room : (basic (net_of s)).conditions ≤ length out) where
-  pub replayed : (unfolded_replay_of s w (length out) ≡ Fine (basic (net_of s)).conditions) ↔ T (runs (basic (net_of s)) (begin (basic (net_of s))) w)
+  pub replayed : (unfolded_replay_of s w (length out) ≡ Ok (basic (net_of s)).conditions) ↔ T (runs (basic (net_of s)) (begin (basic (net_of s))) w)
   unfolding unfolded_replay_of ended
   replayed =
       let c = (basic (net_of s)).conditions in

@@ -12,8 +12,8 @@ use Rattle.model.specs.Net.{Net, Marking, concession, fire}
 use Rattle.model.specs.Unfolding.{UnfoldedCondition, copy, basic}
 use Rattle.model.specs.Across.{most_steps, unfolding_refused}
 use Rattle.model.specs.Paper.{Set, ◌⊆◌, pre, post, holding, B', pre', post', BasicFires, MixedFires, copied}
-use Rattle.refusal.specs.declared.Judged.{Judged}
-use Rattle.refusal.specs.declared.Judged.TheVariants.{Fine}
+use Rattle.refusal.specs.Answer.{Judged}
+use Rattle.std.specs.Prelude.{Ok}
 use Rattle.records.specs.Records.{old_rule}
 use Rattle.table.specs.Walk.{judge_of}
 use Rattle.table.specs.Decoded.{net_of}
@@ -138,7 +138,7 @@ module _ (s : List ℕ) (u : (own : Judged) → unfolding_of s own ≡ own) wher
       some_same : (x y : UnfoldedCondition) → some x ≡ some y → x ≡ y
       some_same x y e = cc
 
-  plays_sets : (n : ℕ) → judge_of s ≡ Fine n → Plays (in_sets s) (net_of s)
+  plays_sets : (n : ℕ) → judge_of s ≡ Ok n → Plays (in_sets s) (net_of s)
   plays_sets n j m x i here k y = go (old_rule s) refl
     where
       low : ltb i (basic (net_of s)).events ≡ true
@@ -165,11 +165,11 @@ module _ (s : List ℕ) (u : (own : Judged) → unfolding_of s own ≡ own) wher
 pub unfolded_fire_sets : (s m : List ℕ) (j : ℕ) → Passes (before_unfolded s m) → FiresBy (in_sets s) (net_of s) m j (unfolded_fire_of s m j) (unfolded_fired_of s m j)
 unfolded_fire_sets s m j h =
     let (n, e) = judged s m j h in
-    let u = (prefix_passed s (lent (basic (net_of s)).conditions m (Fine 0)) 0 h).0 in
+    let u = (prefix_passed s (lent (basic (net_of s)).conditions m (Ok 0)) 0 h).0 in
     fires_by s m j h (in_sets s) (plays_sets s u n e)
 
 -- Of an accepted table that unfolds and at most 4,096 numbers, so is a replay.
-pub unfolded_replay_sets : (s w out : List ℕ) (n : ℕ) → judge_of s ≡ Fine n → unfolding_refused (net_of s) ≡ none → length w ≤ most_steps
+pub unfolded_replay_sets : (s w out : List ℕ) (n : ℕ) → judge_of s ≡ Ok n → unfolding_refused (net_of s) ≡ none → length w ≤ most_steps
     → (basic (net_of s)).conditions ≤ length out → ReplaysBy (in_sets s) (net_of s) w (unfolded_replay_of s w (length out)) (unfolded_replayed_of s w out)
 unfolding unfolding_of
 unfolded_replay_sets s w out n j unfolds short room = replays_by s w out n j unfolds short room (in_sets s) (plays_sets s (λ own. rw (j, unfolds)) n j)

@@ -16,13 +16,14 @@ use Rattle.model.specs.Exchange.{apart_step}
 use Rattle.model.specs.Lent.{marking}
 use Rattle.model.specs.Across.{Whose, stopped, Answer, run, refusal, other, unless, stuck, most_steps, most_unfolded, too_long, within, lowest_idle, idle_or_over, unfolding_refused, own_or_earliest, repeated, again, lifting, lift, projecting, project, no_step, not_apart, exchanging, exchange}
 use Rattle.model.specs.Across as model
-use Rattle.refusal.specs.declared.Judged.{Judged}
-use Rattle.refusal.specs.declared.Judged.TheVariants.{Fine, Refused}
+use Rattle.refusal.specs.Answer.{Judged}
+use Rattle.std.specs.Prelude.{Ok, Err}
 use Rattle.refusal.specs.Answer as answer
 use Rattle.refusal.specs.Answer.{refused_at, need, and_then, fitting}
 use Rattle.words.specs.Words.{words, bits, count_in}
 use Rattle.records.specs.declared.Header.{Header}
-use Rattle.records.specs.declared.Header.TheVariants.{Short, Whole}
+use Rattle.records.specs.Records.{whole}
+use Rattle.std.specs.Prelude.{None}
 use Rattle.records.specs.Records.{part, header_of, when_whole, ruled, front, conditions, flags, pre_count, post_count, pre_part, post_part}
 use Rattle.rules.specs.Rules.{rule_of, conditions_of, marking_of}
 use Rattle.event_rules.specs.EventRules.{lists_of, event_of}
@@ -62,20 +63,20 @@ module _ (l : List ℕ) where
   listed_need false number place rest h t = h
 
   pub listed_then : (a : Judged) (f : ℕ → Judged) → T (listed l a) → ((v : ℕ) → T (listed l (f v))) → T (listed l (and_then a f))
-  listed_then (Fine v) f h t = t v
-  listed_then (Refused x) f h t = h
+  listed_then (Ok v) f h t = t v
+  listed_then (Err x) f h t = h
 
   pub listed_cond : (b : Bool) (a z : Judged) → T (listed l a) → T (listed l z) → T (listed l (cond b a z))
   listed_cond true a z h t = h
   listed_cond false a z h t = t
 
   listed_whole : (h : Header) (at : ℕ) (f : ℕ → ℕ → Judged) → T (listed l (refused_at 1 at)) → ((kind len : ℕ) → T (listed l (f kind len))) → T (listed l (when_whole h at f))
-  listed_whole Short at f h t = h
-  listed_whole (Whole kind len) at f h t = t kind len
+  listed_whole None at f h t = h
+  listed_whole (whole kind len) at f h t = t kind len
 
   pub listed_fitting : (needed room : ℕ) → T (mem 16 l) → T (listed l (fitting needed room))
   unfolding fitting
-  listed_fitting needed room h = listed_need (leb needed room) 16 needed (Fine needed) (and_both (mem 16 l) true h tt) tt
+  listed_fitting needed room h = listed_need (leb needed room) 16 needed (Ok needed) (and_both (mem 16 l) true h tt) tt
 
   -- a refusal of the model with one of the numbers
   abbrev pub listed_if : Option model.Refusal → Bool
@@ -88,14 +89,14 @@ module _ (l : List ℕ) where
 
 -- more numbers list no less
 pub listed_more : (k l : List ℕ) (a : Judged) → T (all (λ x. mem x l) k) → T (listed k a) → T (listed l a)
-listed_more k l (Fine v) h t = tt
-listed_more k l (Refused x) h t =
+listed_more k l (Ok v) h t = tt
+listed_more k l (Err x) h t =
     and_both (mem x.number l) (named x) (all_at (λ y. mem y l) k h x.number (and_left (mem x.number k) (named x) t)) (and_right (mem x.number k) (named x) t)
 
 -- the number of an answer that is no `Judged`: 0 where nothing is refused
 pub zero_listed : (l : List ℕ) (a : Judged) {number : ℕ} → number ≡ answer.number_of a → T (listed l a) → T (mem number (0 ∷ l))
-zero_listed l (Fine k) e h = rw e tt
-zero_listed l (Refused x) e h =
+zero_listed l (Ok k) e h = rw e tt
+zero_listed l (Err x) e h =
     subst (λ (k : ℕ). T (mem k (0 ∷ l))) (sym e) (or_right (eqb x.number 0) (mem x.number l) (and_left (mem x.number l) (named x) h))
 
 -- ---- a table
@@ -103,7 +104,7 @@ zero_listed l (Refused x) e h =
 pub rule_listed : (s : List ℕ) → T (listed of_table (rule_of s))
 unfolding rule_of
 rule_listed s =
-    listed_cond of_table (ruled s) _ (Fine 0)
+    listed_cond of_table (ruled s) _ (Ok 0)
     (listed_whole of_table (header_of s 0) 0 _ tt (λ kind len.
     listed_need of_table (eqb len 1) 3 0 _ tt (listed_need of_table (leb (get_or s 4 0) 1) 4 0 _ tt tt))) tt
 
@@ -210,7 +211,7 @@ unfolding firing_of on_marking
 firing_listed s m e value =
     judged_listed of_firing s _ tt (λ n.
     lent_listed of_firing (net_of s).conditions m _ tt
-    (listed_or of_firing (firing_stopped model.of_table (stopping (net_of s) (marking m) e)) (Fine value)
+    (listed_or of_firing (firing_stopped model.of_table (stopping (net_of s) (marking m) e)) (Ok value)
     (firing_stop_listed of_firing model.of_table (stopping (net_of s) (marking m) e) tt tt tt) tt))
 
 -- ---- replay

@@ -17,8 +17,8 @@ use Rattle.model.specs.Paper.{Set, holding, Concession, OldConcession, Fires}
 use Rattle.model.proofs.Firing.{none_can, can_none, can_concession, can_of, fire_none}
 use Rattle.model.proofs.Lent.{marking_bytes, tidy_marking}
 use Rattle.model.proofs.Rule.{concession_paper, fires_paper, concession_old, fires_old}
-use Rattle.refusal.specs.declared.Judged.{Judged}
-use Rattle.refusal.specs.declared.Judged.TheVariants.{Fine}
+use Rattle.refusal.specs.Answer.{Judged}
+use Rattle.std.specs.Prelude.{Ok}
 use Rattle.refusal.specs.Answer.{and_then}
 use Rattle.refusal.proofs.Chain.{never_both}
 use Rattle.records.specs.Records.{old_rule}
@@ -32,7 +32,7 @@ use Rattle.game.proofs.Marked.{on_then, on_fine}
 use Rattle.promises.specs.Ruled.{ByRule}
 
 -- an answer is fine exactly if nothing stops
-pub unstopped : (w : Whose) (o : Option Stop) (v : ℕ) → (refused_or (firing_stopped w o) (Fine v) ≡ Fine v) ↔ (o ≡ none)
+pub unstopped : (w : Whose) (o : Option Stop) (v : ℕ) → (refused_or (firing_stopped w o) (Ok v) ≡ Ok v) ↔ (o ≡ none)
 unstopped w none v = (λ _. refl, λ _. refl)
 unstopped w (some x) v = (λ h. never_both (sym h), λ h. absurd (let z : ◌≡◌ {A = ℕ} 0 1 = cc in omega arith))
 
@@ -44,24 +44,24 @@ fired_again n sound m long e low =
     fire_none n (marking m) e b (is_false (mem b (n.postconditions e)) (λ i. absurd (omega (arith, sound.post_in e b low i))))
     (tidy_marking m b (omega (arith, long))))
 
-module _ (s m : List ℕ) (e n : ℕ) (h : on_marking s m Fine ≡ Fine n) (low : e < n) where
+module _ (s m : List ℕ) (e n : ℕ) (h : on_marking s m Ok ≡ Ok n) (low : e < n) where
   -- what is known of a table and a marking that are accepted
   count : n ≡ (net_of s).events
-  count = let k = on_fine s m Fine n h in let q : k.events ≡ n = cc k.goes in sym q ∙ events_are_all s k.events k.judged
+  count = let k = on_fine s m Ok n h in let q : k.events ≡ n = cc k.goes in sym q ∙ events_are_all s k.events k.judged
 
   long : length m ≡ (net_of s).conditions
-  long = let k = on_fine s m Fine n h in k.long ∙ conditions_are_all s k.events k.judged
+  long = let k = on_fine s m Ok n h in k.long ∙ conditions_are_all s k.events k.judged
 
   rule : (b : ℕ) → (net_of s).old b ≡ old_rule s
-  rule b = let k = on_fine s m Fine n h in rule_read s k.events k.judged b
+  rule b = let k = on_fine s m Ok n h in rule_read s k.events k.judged b
 
   -- an asking is fine exactly if the event has concession
-  asked : (v : ℕ) → (firing_of s m e v ≡ Fine v) ↔ T (concession (net_of s) (marking m) e)
+  asked : (v : ℕ) → (firing_of s m e v ≡ Ok v) ↔ T (concession (net_of s) (marking m) e)
   unfolding firing_of
   asked v =
       let o = stopping (net_of s) (marking m) e in
-      let told : firing_of s m e v ≡ refused_or (firing_stopped of_table o) (Fine v)
-      = sym (on_then s m Fine (λ _. refused_or (firing_stopped of_table o) (Fine v))) ∙ ap (λ (j : Judged). and_then j (λ _. refused_or (firing_stopped of_table o) (Fine v))) h in (
+      let told : firing_of s m e v ≡ refused_or (firing_stopped of_table o) (Ok v)
+      = sym (on_then s m Ok (λ _. refused_or (firing_stopped of_table o) (Ok v))) ∙ ap (λ (j : Judged). and_then j (λ _. refused_or (firing_stopped of_table o) (Ok v))) h in (
         λ q. can_concession (net_of s) (marking m) e (none_can (net_of s) (marking m) e ((unstopped of_table o v).0 (sym told ∙ q))),
         λ t. told ∙ (unstopped of_table o v).1 (can_none (net_of s) (marking m) e (can_of (net_of s) (marking m) e (lt→ltb e (net_of s).events (omega (arith, count))) t)),
       )
@@ -75,7 +75,7 @@ module _ (s m : List ℕ) (e n : ℕ) (h : on_marking s m Fine ≡ Fine n) (low 
       ∙ fired_again (net_of s) sound m long e (omega (arith, count))
     where
       sound : Sound (net_of s)
-      sound = let k = on_fine s m Fine n h in accepted_sound s k.events k.judged
+      sound = let k = on_fine s m Ok n h in accepted_sound s k.events k.judged
 
   -- the promise, for a rule that is the model's
   by_rule : (Rule : Net → Set ℕ → ℕ → Type 0) → T (concession (net_of s) (marking m) e) ↔ Rule (net_of s) (holding (marking m)) e

@@ -20,7 +20,7 @@ use Rattle.model.proofs.Repeats.{repeated_cons, repeated_build}
 use Rattle.model.proofs.Answers.{unless_run, lifting_run, run_lifting, projecting_run, run_projecting, short_length, length_short}
 use Rattle.model.proofs.Sets.{basic_sound}
 use Rattle.model.proofs.Demands.{lift_lifts, lift_length, project_projects}
-use Rattle.refusal.specs.declared.Judged.TheVariants.{Fine}
+use Rattle.std.specs.Prelude.{Ok}
 use Rattle.refusal.specs.Answer.{written}
 use Rattle.refusal.proofs.Chain.{then_fine, written_front}
 use Rattle.table.specs.Walk.{judge_of}
@@ -113,21 +113,21 @@ project_stages n d w r h k = project_projects n d (take k w) (take k r) (project
 
 -- what a fine lift or projection wrote is the model's run
 module _ (s : List ℕ) where
-  lift_on_lem : (r out w : List ℕ) (c : ℕ) → lift_of s r (length out) ≡ Fine c → lift (net_of s) r ≡ run w → lift_on s r out ≡ w
+  lift_on_lem : (r out w : List ℕ) (c : ℕ) → lift_of s r (length out) ≡ Ok c → lift (net_of s) r ≡ run w → lift_on s r out ≡ w
   unfolding lifted_of
   lift_on_lem r out w c h a =
       ap (λ (k : ℕ). take k (lifted_of s r out)) (sym (lift_length (net_of s) r w (lift_lifts (net_of s) r w a)))
       ∙ ap (λ (x : List ℕ). take (length w) (written (lift_of s r (length out)) x out)) (ap numbers_of a)
       ∙ written_front (lift_of s r (length out)) c w out h
 
-  project_on_lem : Sound (net_of s) → (w out r : List ℕ) (c : ℕ) → project_of s w (length out) ≡ Fine c → project (net_of s) w ≡ run r → project_on s w out ≡ r
+  project_on_lem : Sound (net_of s) → (w out r : List ℕ) (c : ℕ) → project_of s w (length out) ≡ Ok c → project (net_of s) w ≡ run r → project_on s w out ≡ r
   unfolding projected_of
   project_on_lem d w out r c h a =
       ap (λ (k : ℕ). take k (projected_of s w out)) (sym (project_length (net_of s) w r (project_projects (net_of s) d w r a)))
       ∙ ap (λ (x : List ℕ). take (length r) (written (project_of s w (length out)) x out)) (ap numbers_of a)
       ∙ written_front (project_of s w (length out)) c r out h
 
-module _ (s : List ℕ) (n : ℕ) (j : judge_of s ≡ Fine n) where
+module _ (s : List ℕ) (n : ℕ) (j : judge_of s ≡ Ok n) where
   -- the ends as they are written
   replay_end : (r out : List ℕ) → length r ≤ most_steps → T (runs (net_of s) (begin (net_of s)) r) → (net_of s).conditions ≤ length out
       → marking (take (net_of s).conditions (end_of s r out)) ≡ end (net_of s) (begin (net_of s)) r
@@ -146,7 +146,7 @@ module _ (s : List ℕ) (n : ℕ) (j : judge_of s ≡ Fine n) where
       (lift_end_given s n j r w (length out) a room)
 
 -- Each beginning of a run that lifts, lifts to that beginning of its lift, and the markings there correspond.
-pub lifted_stage : (s r out : List ℕ) (c : ℕ) → lift_of s r (length out) ≡ Fine c
+pub lifted_stage : (s r out : List ℕ) (c : ℕ) → lift_of s r (length out) ≡ Ok c
     → (table_out unfolded_out : List ℕ) (k : ℕ) → LiftedStage s r out table_out unfolded_out k
 unfolding lift_of lift opening
 lifted_stage s r out c h table_out unfolded_out k =
@@ -155,8 +155,8 @@ lifted_stage s r out c h table_out unfolded_out k =
     let b = lift_beginning (net_of s) r w a k in
     let l = lift_lifts (net_of s) (take k r) (take k w) b in
     let long = lift_length (net_of s) (take k r) (take k w) l in
-    let answer : lift_of s (take k r) (length out) ≡ Fine (length (take k r))
-    = lift_given s n j (take k r) (take k w) (length out) b (omega (arith, length_beginning k w, room)) ∙ ap Fine long in
+    let answer : lift_of s (take k r) (length out) ≡ Ok (length (take k r))
+    = lift_given s n j (take k r) (take k w) (length out) b (omega (arith, length_beginning k w, room)) ∙ ap Ok long in
     let here : lift_on s r out ≡ w = lift_on_lem s r out w c h a in
     let short = lift_short (net_of s) (take k r) (take k w) b in
     let last = end (net_of s) (begin (net_of s)) (take k r) in
@@ -181,7 +181,7 @@ lifted_stage s r out c h table_out unfolded_out k =
         (short_length r x.0, (lifting_run n (own_or_earliest n) 0 (opening n) r w y.1).0)
 
 -- Each beginning of an unfolded run that is projected, is projected to that beginning of its projection, and the markings there correspond.
-pub projected_stage : (s w out : List ℕ) (c : ℕ) → project_of s w (length out) ≡ Fine c
+pub projected_stage : (s w out : List ℕ) (c : ℕ) → project_of s w (length out) ≡ Ok c
     → (table_out unfolded_out : List ℕ) (k : ℕ) → ProjectedStage s w out table_out unfolded_out k
 unfolding project_of project
 projected_stage s w out c h table_out unfolded_out k =
@@ -191,8 +191,8 @@ projected_stage s w out c h table_out unfolded_out k =
     let b = project_beginning (net_of s) w r a k in
     let p = project_projects (net_of s) d (take k w) (take k r) b in
     let long = project_length (net_of s) (take k w) (take k r) p in
-    let answer : project_of s (take k w) (length out) ≡ Fine (length (take k w))
-    = project_given s n j (take k w) (take k r) (length out) b (omega (arith, length_beginning k r, room)) ∙ ap Fine long in
+    let answer : project_of s (take k w) (length out) ≡ Ok (length (take k w))
+    = project_given s n j (take k w) (take k r) (length out) b (omega (arith, length_beginning k r, room)) ∙ ap Ok long in
     let here : project_on s w out ≡ r = project_on_lem s d w out r c h a in
     let (short, unfolds) = opens (net_of s) (take k w) (take k r) b in
     let last = end (basic (net_of s)) (begin (basic (net_of s))) (take k w) in

@@ -21,10 +21,10 @@ use Rattle.model.specs.Lent.{marking}
 use Rattle.model.specs.Stopped.{StoppedBy, StoppedAt}
 use Rattle.model.proofs.Sets.{basic_sound}
 use Rattle.model.proofs.Stopped.{stopping_exactly, refused_exactly}
-use Rattle.refusal.specs.declared.By.TheVariants.{Nothing}
+use Rattle.std.specs.Prelude.{None}
 use Rattle.refusal.specs.declared.Refusal as declared
-use Rattle.refusal.specs.declared.Judged.{Judged}
-use Rattle.refusal.specs.declared.Judged.TheVariants.{Fine, Refused}
+use Rattle.refusal.specs.Answer.{Judged}
+use Rattle.std.specs.Prelude.{Ok, Err}
 use Rattle.refusal.specs.Answer.{number_of, place_of, by_of, condition_of, need, and_then, fitting}
 use Rattle.refusal.proofs.Chain.{never_both, then_fine}
 use Rattle.table.specs.Walk.{judge_of}
@@ -50,21 +50,21 @@ use Rattle.promises.proofs.Refused.{listed_if, listed_or, listed_fitting, judge_
 
 -- it passes all on, or refuses all alike, and then with a number that no condition stands behind
 abbrev Judging : (Judged → Judged) → Type 0
-Judging p = ((a : Judged) → p a ≡ a) ⊎ ((x : declared.Refusal) × (T (mem x.number by_condition) → ⊥) × ((a : Judged) → p a ≡ Refused x))
+Judging p = ((a : Judged) → p a ≡ a) ⊎ ((x : declared.Refusal) × (T (mem x.number by_condition) → ⊥) × ((a : Judged) → p a ≡ Err x))
 
 -- numbers that no condition stands behind
 abbrev plain : List ℕ → Bool
 plain l = all (λ x. not (mem x by_condition)) l
 
-plain_not : (l : List ℕ) → T (plain l) → (x : declared.Refusal) → T (listed l (Refused x)) → T (mem x.number by_condition) → ⊥
+plain_not : (l : List ℕ) → T (plain l) → (x : declared.Refusal) → T (listed l (Err x)) → T (mem x.number by_condition) → ⊥
 plain_not l h x t = not_out (mem x.number by_condition) (all_at (λ y. not (mem y by_condition)) l h x.number (and_left (mem x.number l) (named x) t))
 
 judging_judge : (s : List ℕ) → Judging (λ a. and_then (judge_of s) (λ n. a))
 judging_judge s = go (judge_of s) (judge_listed s)
   where
     go : (j : Judged) → T (listed of_table j) → Judging (λ a. and_then j (λ n. a))
-    go (Fine n) t = inl (λ a. refl)
-    go (Refused x) t = inr (x, plain_not of_table tt x t, λ a. refl)
+    go (Ok n) t = inl (λ a. refl)
+    go (Err x) t = inr (x, plain_not of_table tt x t, λ a. refl)
 
 judging_or : (l : List ℕ) → T (plain l) → (o : Option Refusal) → T (listed_if l o) → Judging (refused_or o)
 judging_or l h none t = inl (λ a. refl)
@@ -75,7 +75,7 @@ judging_or l h (some x) t =
 judging_eighteen : (b : Bool) (place : ℕ) → Judging (need b 18 place)
 unfolding need
 judging_eighteen true place = inl (λ a. refl)
-judging_eighteen false place = inr (record { number = 18; place = place; by = Nothing }, λ t. t, λ a. refl)
+judging_eighteen false place = inr (record { number = 18; place = place; by = None }, λ t. t, λ a. refl)
 
 judging_both : (p q : Judged → Judged) → Judging p → Judging q → Judging (λ a. p (q a))
 judging_both p q (inl f) (inl g) = inl (λ a. f (q a) ∙ g a)
@@ -94,12 +94,12 @@ judging_unfolding : (s : List ℕ) → Judging (refused_or (unfolding_refused (n
 judging_unfolding s = judging_or (13 ∷ 14 ∷ []) tt (unfolding_refused (net_of s)) (unfolding_listed (13 ∷ 14 ∷ []) (net_of s) tt tt)
 
 -- a refusal that names a condition comes after what passes
-named_after : (p : Judged → Judged) → Judging p → (a : Judged) (x : declared.Refusal) → T (mem x.number by_condition) → (p a ≡ Refused x) ↔ (Passes p × (a ≡ Refused x))
-named_after p (inl f) a x t = (λ h. (f (Fine 0), sym (f a) ∙ h), λ h. f a ∙ h.1)
+named_after : (p : Judged → Judged) → Judging p → (a : Judged) (x : declared.Refusal) → T (mem x.number by_condition) → (p a ≡ Err x) ↔ (Passes p × (a ≡ Err x))
+named_after p (inl f) a x t = (λ h. (f (Ok 0), sym (f a) ∙ h), λ h. f a ∙ h.1)
 named_after p (inr y) a x t = (
   λ h. let same : y.0.number ≡ x.number = ap number_of (sym (y.2 a) ∙ h) in
       absurd (y.1 (subst (λ (k : ℕ). T (mem k by_condition)) (sym same) t)),
-  λ h. never_both (sym h.0 ∙ y.2 (Fine 0)),
+  λ h. never_both (sym h.0 ∙ y.2 (Ok 0)),
 )
 
 -- ---- what is stopped
@@ -128,7 +128,7 @@ told_same w u v k i e = (
 )
 
 -- what names a condition is one of the two stops that have one
-names_one : (w : Whose) (v : Stop) (k : ℕ) (x : declared.Refusal) → refusing (stopped w v k) ≡ Refused x → T (mem x.number by_condition)
+names_one : (w : Whose) (v : Stop) (k : ℕ) (x : declared.Refusal) → refusing (stopped w v k) ≡ Err x → T (mem x.number by_condition)
     → (b : ℕ) × (stop_place v ≡ b) × (x.by ≡ by_in w (some b))
 names_one w unknown k x e t = absurd (subst (λ (z : ℕ). T (mem z by_condition)) (sym (ap number_of e)) t)
 names_one w (lacks b) k x e t = (b, refl, sym (ap by_of e))
@@ -136,7 +136,7 @@ names_one w (meets b) k x e t = (b, refl, sym (ap by_of e))
 
 -- ---- firing
 
-firing_told : (w : Whose) (o : Option Stop) (value : ℕ) (v : Stop) → (refused_or (firing_stopped w o) (Fine value) ≡ refusing (stopped w v (stop_place v))) ↔ (o ≡ some v)
+firing_told : (w : Whose) (o : Option Stop) (value : ℕ) (v : Stop) → (refused_or (firing_stopped w o) (Ok value) ≡ refusing (stopped w v (stop_place v))) ↔ (o ≡ some v)
 firing_told w none value v = (λ h. never_both h, λ h. absurd (let z : ◌≡◌ {A = ℕ} 0 1 = cc in omega arith))
 firing_told w (some u) value v = (
   λ h. ap some (told_same w u v (stop_place u) (stop_place v) h).0,
@@ -144,24 +144,24 @@ firing_told w (some u) value v = (
 )
 
 module _ (p : Judged → Judged) (j : Judging p) (w : Whose) (n : Net) (sound : Passes p → Sound n) where
-  firing_stop : (m : Marking) (e value : ℕ) (v : Stop) (x : declared.Refusal) → refusing (stopped w v (stop_place v)) ≡ Refused x → T (mem x.number by_condition)
-      → (p (refused_or (firing_stopped w (stopping n m e)) (Fine value)) ≡ refusing (stopped w v (stop_place v))) ↔ (Passes p × StoppedBy n m e v)
+  firing_stop : (m : Marking) (e value : ℕ) (v : Stop) (x : declared.Refusal) → refusing (stopped w v (stop_place v)) ≡ Err x → T (mem x.number by_condition)
+      → (p (refused_or (firing_stopped w (stopping n m e)) (Ok value)) ≡ refusing (stopped w v (stop_place v))) ↔ (Passes p × StoppedBy n m e v)
   firing_stop m e value v x q t =
-      let a = refused_or (firing_stopped w (stopping n m e)) (Fine value) in
+      let a = refused_or (firing_stopped w (stopping n m e)) (Ok value) in
       let after = named_after p j a x t in
       let told = firing_told w (stopping n m e) value v in (
         λ h. let r = after.0 (h ∙ q) in (r.0, (stopping_exactly n m e (sound r.0) v).0 (told.0 (r.1 ∙ sym q))),
         λ h. after.1 (h.0, told.1 ((stopping_exactly n m e (sound h.0) v).1 h.1) ∙ q) ∙ sym q,
       )
 
-  firing_names : (m : Marking) (e value : ℕ) → FiringNames p w n m e (p (refused_or (firing_stopped w (stopping n m e)) (Fine value)))
+  firing_names : (m : Marking) (e value : ℕ) → FiringNames p w n m e (p (refused_or (firing_stopped w (stopping n m e)) (Ok value)))
   firing_names m e value = record {
     eleven = λ b. firing_stop m e value (lacks b) _ refl tt;
     twelve = λ b. firing_stop m e value (meets b) _ refl tt;
     only = λ x h t. go (stopping n m e) x ((named_after p j _ x t).0 h).1 t;
   }
     where
-      go : (o : Option Stop) (x : declared.Refusal) → refused_or (firing_stopped w o) (Fine value) ≡ Refused x → T (mem x.number by_condition) → x.by ≡ by_in w (some x.place)
+      go : (o : Option Stop) (x : declared.Refusal) → refused_or (firing_stopped w o) (Ok value) ≡ Err x → T (mem x.number by_condition) → x.by ≡ by_in w (some x.place)
       go none x h t = never_both h
       go (some v) x h t =
           let r = names_one w v (stop_place v) x h t in
@@ -171,14 +171,14 @@ module _ (p : Judged → Judged) (j : Judging p) (w : Whose) (n : Net) (sound : 
 
 -- what follows the steps names no condition
 abbrev Unnamed : Judged → Type 0
-Unnamed a = (x : declared.Refusal) → a ≡ Refused x → T (mem x.number by_condition) → ⊥
+Unnamed a = (x : declared.Refusal) → a ≡ Err x → T (mem x.number by_condition) → ⊥
 
 unnamed : (l : List ℕ) → T (plain l) → (a : Judged) → T (listed l a) → Unnamed a
-unnamed l h (Fine v) t x e k = never_both e
-unnamed l h (Refused y) t x e k = let z : y.number ≡ x.number = ap number_of e in plain_not l h y t (subst (λ (i : ℕ). T (mem i by_condition)) (sym z) k)
+unnamed l h (Ok v) t x e k = never_both e
+unnamed l h (Err y) t x e k = let z : y.number ≡ x.number = ap number_of e in plain_not l h y t (subst (λ (i : ℕ). T (mem i by_condition)) (sym z) k)
 
 module _ (p : Judged → Judged) (j : Judging p) (w : Whose) (n : Net) (sound : Passes p → Sound n) (s : State) (r : List ℕ) (rest : Judged) (after : Unnamed rest) where
-  run_told : (v : Stop) (i : ℕ) (x : declared.Refusal) → refusing (stopped w v i) ≡ Refused x → T (mem x.number by_condition)
+  run_told : (v : Stop) (i : ℕ) (x : declared.Refusal) → refusing (stopped w v i) ≡ Err x → T (mem x.number by_condition)
       → (refused_or (stuck w (replay n 0 s r)) rest ≡ refusing (stopped w v i)) ↔ (replay n 0 s r ≡ refused v i)
   run_told v i x q t = (λ h. go (replay n 0 s r) h, λ h. ap (λ (z : Played). refused_or (stuck w z) rest) h)
     where
@@ -188,7 +188,7 @@ module _ (p : Judged → Judged) (j : Judging p) (w : Whose) (n : Net) (sound : 
           let (a, b) = told_same w u v k i h in
           ap (λ (y : Stop). refused y k) a ∙ ap (refused v) b
 
-  run_stop : (v : Stop) (i : ℕ) (x : declared.Refusal) → refusing (stopped w v i) ≡ Refused x → T (mem x.number by_condition)
+  run_stop : (v : Stop) (i : ℕ) (x : declared.Refusal) → refusing (stopped w v i) ≡ Err x → T (mem x.number by_condition)
       → (p (refused_or (stuck w (replay n 0 s r)) rest) ≡ refusing (stopped w v i)) ↔ (Passes p × StoppedAt n 0 s.marking r v i)
   run_stop v i x q t =
       let a = refused_or (stuck w (replay n 0 s r)) rest in
@@ -205,13 +205,13 @@ module _ (p : Judged → Judged) (j : Judging p) (w : Whose) (n : Net) (sound : 
     only = λ x h t. go (replay n 0 s r) x ((named_after p j _ x t).0 h).1 t;
   }
     where
-      go : (z : Played) (x : declared.Refusal) → refused_or (stuck w z) rest ≡ Refused x → T (mem x.number by_condition) → (b : ℕ) × (x.by ≡ by_in w (some b))
+      go : (z : Played) (x : declared.Refusal) → refused_or (stuck w z) rest ≡ Err x → T (mem x.number by_condition) → (b : ℕ) × (x.by ≡ by_in w (some b))
       go (ends y) x h t = absurd (after x h t)
       go (refused v k) x h t = let q = names_one w v k x h t in (q.0, q.2)
 
 -- ---- the calls that fire
 
-judged_sound : (s : List ℕ) (f : ℕ → Judged) → and_then (judge_of s) f ≡ Fine 0 → Sound (net_of s)
+judged_sound : (s : List ℕ) (f : ℕ → Judged) → and_then (judge_of s) f ≡ Ok 0 → Sound (net_of s)
 judged_sound s f h = let r = then_fine (judge_of s) f 0 h in accepted_sound s r.0 r.1
 
 judging_marking : (s m : List ℕ) → Judging (before_firing s m)
@@ -273,11 +273,11 @@ unfolding exchange_of exchange exchanging no_step not_apart opening
 exchange_names s r k =
     let n = net_of s in
     let steps = stuck model.of_table (replay n 0 (opening n) r) in
-    let rest = refused_or (no_step r k) (refused_or (not_apart n r k) (Fine 2)) in
+    let rest = refused_or (no_step r k) (refused_or (not_apart n r k) (Ok 2)) in
     let told : swapping (exchange n r k) ≡ refused_or (too_long r) (refused_or steps rest)
     = by_link (too_long r) _ ∙ ap (refused_or (too_long r)) (by_link steps _ ∙ ap (refused_or steps) (by_link (no_step r k) _ ∙ ap (refused_or (no_step r k)) (by_link (not_apart n r k) (run (exchanged k r))))) in
     let after = unnamed (10 ∷ 17 ∷ []) tt rest (listed_or (10 ∷ 17 ∷ []) (no_step r k) _ (if_listed (10 ∷ 17 ∷ []) (ltb (suc k) (length r)) 10 k tt)
-    (listed_or (10 ∷ 17 ∷ []) (not_apart n r k) (Fine 2) (if_listed (10 ∷ 17 ∷ []) (apart_step n (begin n) r k) 17 k tt) tt)) in
+    (listed_or (10 ∷ 17 ∷ []) (not_apart n r k) (Ok 2) (if_listed (10 ∷ 17 ∷ []) (apart_step n (begin n) r k) 17 k tt) tt)) in
     subst (λ (z : Judged). RunNames (before_run s r) model.of_table n (begin n) r (and_then (judge_of s) (λ _. z))) (sym told)
     (run_names (before_run s r) (judging_run s r) model.of_table n (judged_sound s _) (opening n) r rest after)
   where

@@ -4,26 +4,26 @@ use Prim.Native.Nat.{ℕ}
 use mathlib.Core.Path.{◌≡◌, refl}
 use mathlib.Core.List.{List}
 use Rattle.model.specs.Unfolding.{UnfoldedCondition, ordinary, copy, UnfoldedEvent, origin}
-use Rattle.refusal.specs.declared.Judged.{Judged}
-use Rattle.refusal.specs.declared.Judged.TheVariants.{Fine, Refused}
+use Rattle.refusal.specs.Answer.{Judged}
+use Rattle.std.specs.Prelude.{Ok, Err}
 use Rattle.refusal.specs.Answer.{number_of, place_of}
 use Rattle.table.specs.Decoded.{net_of}
 use Rattle.events.specs.Answers.{origin_judged, origin_if, origin_of}
 use Rattle.conditions.specs.Origins.{condition_at, condition_judged, told_if, condition_origin_of, origin_number, origin_place}
 
 number_if : (a : Judged) (p : UnfoldedCondition) → origin_number (told_if a p) ≡ number_of a
-number_if (Fine k) (ordinary b) = refl
-number_if (Fine k) (copy b m u) = refl
-number_if (Refused x) p = refl
+number_if (Ok k) (ordinary b) = refl
+number_if (Ok k) (copy b m u) = refl
+number_if (Err x) p = refl
 
 place_if : (a : Judged) (p : UnfoldedCondition) → origin_place (told_if a p) ≡ place_of a
-place_if (Fine k) (ordinary b) = refl
-place_if (Fine k) (copy b m u) = refl
-place_if (Refused x) p = refl
+place_if (Ok k) (ordinary b) = refl
+place_if (Ok k) (copy b m u) = refl
+place_if (Err x) p = refl
 
 answer_if : (a : Judged) (y : UnfoldedEvent) → (origin_if a y).answer ≡ a
-answer_if (Fine k) y = refl
-answer_if (Refused x) y = refl
+answer_if (Ok k) y = refl
+answer_if (Err x) y = refl
 
 pub condition_number_lem : (s : List ℕ) (i : ℕ) → origin_number (condition_origin_of s i) ≡ number_of (condition_judged s i)
 unfolding condition_origin_of

@@ -7,7 +7,7 @@ use Rattle.model.specs.Exchange.{exchanged}
 use Rattle.model.specs.Across.{read_back}
 use Rattle.model.specs.Demands.{Correspond}
 use Rattle.model.specs.Readings.{Again, FirstAgain, Reading, Unread, Forced}
-use Rattle.refusal.specs.declared.Judged.TheVariants.{Fine}
+use Rattle.std.specs.Prelude.{Ok}
 use Rattle.refusal.specs.Answer.{refused_at}
 use Rattle.table.specs.Decoded.{net_of}
 use Rattle.replay.specs.Calls.{replay_of}
@@ -32,7 +32,7 @@ pub record TakenBack (s r out run_out end_out : List ℕ) : Type 0 where
   pub unfolded : T (runs (basic (net_of s)) (begin (basic (net_of s))) (lift_on s r out))
   pub back : read_back (net_of s) (lift_on s r out) ≡ r
   pub ends : Correspond (net_of s) (end (net_of s) (begin (net_of s)) r) (end (basic (net_of s)) (begin (basic (net_of s))) (lift_on s r out))
-  pub answer : length r ≤ length run_out → project_of s (lift_on s r out) (length run_out) ≡ Fine (length r)
+  pub answer : length r ≤ length run_out → project_of s (lift_on s r out) (length run_out) ≡ Ok (length r)
   pub run : length r ≤ length run_out → project_on s (lift_on s r out) run_out ≡ r
   pub end_answer : unfolded_replay_of s (lift_on s r out) (length end_out) ≡ lift_end_of s r (length end_out)
   pub same_end : unfolded_replayed_of s (lift_on s r out) end_out ≡ lift_ended_of s r end_out
@@ -45,13 +45,13 @@ pub record ReadBack (s w out end_out : List ℕ) : Type 0 where
   pub back : project_on s w out ≡ read_back (net_of s) w
   pub run : T (runs (net_of s) (begin (net_of s)) (project_on s w out))
   pub ends : Correspond (net_of s) (end (net_of s) (begin (net_of s)) (project_on s w out)) (end (basic (net_of s)) (begin (basic (net_of s))) w)
-  pub answer : (net_of s).conditions ≤ length end_out → replay_of s (project_on s w out) (length end_out) ≡ Fine (net_of s).conditions
+  pub answer : (net_of s).conditions ≤ length end_out → replay_of s (project_on s w out) (length end_out) ≡ Ok (net_of s).conditions
   pub forced : Forced (net_of s) w
 
 -- Of an accepted table that unfolds and at most 4,096 numbers, project, given room, takes exactly the runs of the unfolded net from its
 -- start (01, Runs across: demand 2).
 pub record TakenExactly (s w : List ℕ) (room : ℕ) : Type 0 where
-  pub taking : length w ≤ room → (project_of s w room ≡ Fine (length w)) ↔ T (runs (basic (net_of s)) (begin (basic (net_of s))) w)
+  pub taking : length w ≤ room → (project_of s w room ≡ Ok (length w)) ↔ T (runs (basic (net_of s)) (begin (basic (net_of s))) w)
 
 -- A run that replay accepts, of a table that unfolds, is refused with 15 exactly if no run of the unfolded net reads back as it: at the
 -- first step that none goes past, which is the first at which an event comes again that marks for another; and by the former rule it was
@@ -62,13 +62,13 @@ pub record TurnedAway (s r : List ℕ) (room : ℕ) : Type 0 where
   pub unread : (i : ℕ) → (lift_of s r room ≡ refused_at 15 i) ↔ Unread (net_of s) r i
   pub repeating : (i : ℕ) → (lift_of s r room ≡ refused_at 15 i) ↔ FirstAgain (net_of s) r i
   pub sooner : (i : ℕ) → lift_of s r room ≡ refused_at 15 i → (k : ℕ) × (k ≤ i) × (former_lift_of s r room ≡ refused_at 15 k)
-  pub reading : length r ≤ room → (lift_of s r room ≡ Fine (length r)) ↔ Reading (net_of s) r
-  pub lifting : length r ≤ room → (lift_of s r room ≡ Fine (length r)) ↔ ((i : ℕ) → Again (net_of s) r i → ⊥)
+  pub reading : length r ≤ room → (lift_of s r room ≡ Ok (length r)) ↔ Reading (net_of s) r
+  pub lifting : length r ≤ room → (lift_of s r room ≡ Ok (length r)) ↔ ((i : ℕ) → Again (net_of s) r i → ⊥)
 
 -- Of a run and the run that exchange leaves, one lifts exactly if the other does; the lifts differ by the same exchange alone, whatever
 -- stands past them in the lent output; and their unfolded ends are the same (01, Runs across: demand 3).
 pub record LiftedAlike (s r : List ℕ) (k : ℕ) (out end_out : List ℕ) : Type 0 where
-  pub both : (c : ℕ) → (lift_of s r (length out) ≡ Fine c) ↔ (lift_of s (exchanged_of s r k) (length out) ≡ Fine c)
-  pub swapped : (c : ℕ) → lift_of s r (length out) ≡ Fine c → lifted_of s (exchanged_of s r k) out ≡ exchanged k (lifted_of s r out)
-  pub both_end : (c : ℕ) → (lift_end_of s r (length end_out) ≡ Fine c) ↔ (lift_end_of s (exchanged_of s r k) (length end_out) ≡ Fine c)
-  pub same_end : (c : ℕ) → lift_end_of s r (length end_out) ≡ Fine c → lift_ended_of s (exchanged_of s r k) end_out ≡ lift_ended_of s r end_out
+  pub both : (c : ℕ) → (lift_of s r (length out) ≡ Ok c) ↔ (lift_of s (exchanged_of s r k) (length out) ≡ Ok c)
+  pub swapped : (c : ℕ) → lift_of s r (length out) ≡ Ok c → lifted_of s (exchanged_of s r k) out ≡ exchanged k (lifted_of s r out)
+  pub both_end : (c : ℕ) → (lift_end_of s r (length end_out) ≡ Ok c) ↔ (lift_end_of s (exchanged_of s r k) (length end_out) ≡ Ok c)
+  pub same_end : (c : ℕ) → lift_end_of s r (length end_out) ≡ Ok c → lift_ended_of s (exchanged_of s r k) end_out ≡ lift_ended_of s r end_out

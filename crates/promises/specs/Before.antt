@@ -8,8 +8,8 @@ use Rattle.model.specs.Runs.{Played, ends, refused, State, opening, replay}
 use Rattle.model.specs.Unfolding.{basic}
 use Rattle.model.specs.Across.{Refusal, number_of, place_of, too_long, unfolding_refused, own_or_earliest, lifted, repeated, again, read_back, no_step, not_apart}
 use Rattle.model.specs.Lent.{marking}
-use Rattle.refusal.specs.declared.Judged.{Judged}
-use Rattle.refusal.specs.declared.Judged.TheVariants.{Fine, Refused}
+use Rattle.refusal.specs.Answer.{Judged}
+use Rattle.std.specs.Prelude.{Ok, Err}
 use Rattle.table.specs.Walk.{judge_of}
 use Rattle.table.specs.Decoded.{net_of}
 use Rattle.game.specs.Lent.{first_above}
@@ -25,8 +25,8 @@ pub data Old : Type 0 where
 
 -- An answer with the condition left out (02, No. 2).
 abbrev pub bare : Judged → Old
-bare (Fine value) = fine value
-bare (Refused x) = turned x.number x.place
+bare (Ok value) = fine value
+bare (Err x) = turned x.number x.place
 
 -- An answer of a firing with 11 and 12 at 0, where they were before (02, No. 2).
 abbrev pub unplaced : Old → Old

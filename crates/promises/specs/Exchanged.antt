@@ -4,8 +4,8 @@ use Rattle.model.specs.Net.{Net, begin}
 use Rattle.model.specs.Runs.{runs, end}
 use Rattle.model.specs.Exchange.{exchanged}
 use Rattle.model.specs.Paper.{Set, ∅, ◌∪◌, ◌∩◌, ◌∖◌, ◌⊆◌, ◌≐◌, P, pre, post, holding}
-use Rattle.refusal.specs.declared.Judged.{Judged}
-use Rattle.refusal.specs.declared.Judged.TheVariants.{Fine}
+use Rattle.refusal.specs.Answer.{Judged}
+use Rattle.std.specs.Prelude.{Ok}
 use Rattle.refusal.specs.Answer.{refused_at}
 
 -- •e ∪ e•, the conditions that an event touches (01, Runs across).
@@ -34,7 +34,7 @@ pub record HasNext (n : Net) (r : List ℕ) (k : ℕ) : Type 0 where
 -- hold, and then these two change places; 17 is given, at k, exactly if they do not hold; and on a run 10 is given, at k, exactly if it
 -- has no step k + 1 (01, Runs across and Refusal numbers: demand 3).
 pub record ExchangedExactly (n : Net) (r : List ℕ) (k : ℕ) (answer : Judged) (left : List ℕ) : Type 0 where
-  pub made : (answer ≡ Fine 2) ↔ (HasNext n r k × PremisesAt n r k)
-  pub swapped : answer ≡ Fine 2 → left ≡ exchanged k r
+  pub made : (answer ≡ Ok 2) ↔ (HasNext n r k × PremisesAt n r k)
+  pub swapped : answer ≡ Ok 2 → left ≡ exchanged k r
   pub seventeen : (i : ℕ) → (answer ≡ refused_at 17 i) ↔ ((i ≡ k) × HasNext n r k × (PremisesAt n r k → ⊥))
   pub ten : T (runs n (begin n) r) → (i : ℕ) → (answer ≡ refused_at 10 i) ↔ ((i ≡ k) × (length r ≤ suc k))

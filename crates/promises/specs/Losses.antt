@@ -2,7 +2,7 @@
 use Rattle.std.specs.Prelude.{◌≡◌, List, ℕ, ◌≤◌, ◌<◌, T, length, get_or}
 use Rattle.model.specs.Net.{begin}
 use Rattle.model.specs.Runs.{runs}
-use Rattle.refusal.specs.declared.Judged.TheVariants.{Fine}
+use Rattle.std.specs.Prelude.{Ok}
 use Rattle.table.specs.Decoded.{net_of}
 use Rattle.replay.specs.Calls.{replay_of, end_of}
 use Rattle.lift.specs.Calls.{lift_of}
@@ -24,4 +24,4 @@ pub record KeptLifts (s r end_out : List ℕ) : Type 0 where
   pub few : length saved.trimmed.kept ≤ length r
   pub answer : replay_of s saved.trimmed.kept (length end_out) ≡ replay_of s r (length end_out)
   pub same_end : end_of s saved.trimmed.kept end_out ≡ end_of s r end_out
-  pub lifts : (room : ℕ) → length saved.trimmed.kept ≤ room → lift_of s saved.trimmed.kept room ≡ Fine (length saved.trimmed.kept)
+  pub lifts : (room : ℕ) → length saved.trimmed.kept ≤ room → lift_of s saved.trimmed.kept room ≡ Ok (length saved.trimmed.kept)

@@ -10,8 +10,8 @@ use Rattle.model.specs.Unfolding.{UnfoldedCondition, ordinary, copy, reads, pick
 use Rattle.model.specs.Lent.{marking}
 use Rattle.model.specs.Paper.{Set, ∅, ◌∪◌, ◌∩◌, ◌∖◌, ◌⊆◌, ◌≐◌, B, E, holding, E', B', pre', post', start'}
 use Rattle.refusal.specs.declared.Marker as declared
-use Rattle.refusal.specs.declared.Judged.{Judged}
-use Rattle.refusal.specs.declared.Judged.TheVariants.{Fine}
+use Rattle.refusal.specs.Answer.{Judged}
+use Rattle.std.specs.Prelude.{Ok}
 use Rattle.records.specs.Records.{old_rule}
 use Rattle.table.specs.Decoded.{net_of}
 use Rattle.tally.specs.Having.{list_of}
@@ -28,10 +28,10 @@ use Rattle.event_numbers.specs.Answers.{number_of}
 
 -- What the calls for the counts of the unfolding answer (01, Runs across).
 abbrev pub condition_count_of : List ℕ → Judged
-condition_count_of s = unfolding_of s (Fine (basic (net_of s)).conditions)
+condition_count_of s = unfolding_of s (Ok (basic (net_of s)).conditions)
 
 abbrev pub event_count_of : List ℕ → Judged
-event_count_of s = unfolding_of s (Fine (basic (net_of s)).events)
+event_count_of s = unfolding_of s (Ok (basic (net_of s)).events)
 
 -- An unfolded condition stands at a number if `condition_origin` tells it (01, Runs across).
 abbrev pub StandsAt : List ℕ → ℕ → Set UnfoldedCondition
@@ -48,8 +48,8 @@ pub record ConditionsNumbered (s : List ℕ) (c : ℕ) : Type 0 where
   pub within : (i : ℕ) (p : UnfoldedCondition) → StandsAt s i p → (i < c) × B' (net_of s) p
   pub all : (p : UnfoldedCondition) → B' (net_of s) p → (i : ℕ) × StandsAt s i p
   pub one : (i k : ℕ) (p : UnfoldedCondition) → StandsAt s i p → StandsAt s k p → i ≡ k
-  pub ordinary_number_lem : (b i : ℕ) → (ordinary_number s b ≡ Fine i) ↔ StandsAt s i (ordinary b)
-  pub copy_number_lem : (b : ℕ) (m : declared.Marker) (u i : ℕ) → (copy_number s b m u ≡ Fine i) ↔ StandsAt s i (copy b (meant m) u)
+  pub ordinary_number_lem : (b i : ℕ) → (ordinary_number s b ≡ Ok i) ↔ StandsAt s i (ordinary b)
+  pub copy_number_lem : (b : ℕ) (m : declared.Marker) (u i : ℕ) → (copy_number s b m u ≡ Ok i) ↔ StandsAt s i (copy b (meant m) u)
 
 -- The event that `event_origin` tells of a number (01, Runs across).
 abbrev pub event_at : List ℕ → ℕ → ℕ
@@ -62,7 +62,7 @@ colour_at s j b k = T (picked (reads (net_of s) (event_at s j)) (colour_of (orig
 -- An event with a choice of markers stands at a number if `event_origin` tells them (01, Runs across).
 pub record ToldAt (s : List ℕ) (j e : ℕ) (c : ℕ → Marker → Type 0) : Type 0 where
   pub count : ℕ
-  pub answer : (origin_of s j).answer ≡ Fine count
+  pub answer : (origin_of s j).answer ≡ Ok count
   pub event : event_at s j ≡ e
   pub same : (b : ℕ) (k : Marker) → colour_at s j b k ↔ c b k
 
@@ -73,7 +73,7 @@ pub record EventsNumbered (s : List ℕ) (c : ℕ) : Type 1 where
   pub within : (j e : ℕ) (d : ℕ → Marker → Type 0) → ToldAt s j e d → (j < c) × E' (net_of s) e d
   pub all : (e : ℕ) (d : ℕ → Marker → Type 0) → E' (net_of s) e d → (j : ℕ) × ToldAt s j e d
   pub one : (j i e : ℕ) (d : ℕ → Marker → Type 0) → ToldAt s j e d → ToldAt s i e d → j ≡ i
-  pub number : (e : ℕ) (d : Colour) (j : ℕ) → (number_of s e d ≡ Fine j) ↔ ((j < c) × (event_at s j ≡ e) × (colour_of (origin_of s j).colour ≡ colour_of d))
+  pub number : (e : ℕ) (d : Colour) (j : ℕ) → (number_of s e d ≡ Ok j) ↔ ((j < c) × (event_at s j ≡ e) × (colour_of (origin_of s j).colour ≡ colour_of d))
 
 -- ---- the lists and the start
 
@@ -105,7 +105,7 @@ Rule = Net → Set ℕ → ℕ → Set ℕ → Type 0
 -- A firing in the unfolded net works exactly if the number is that of an unfolded event that fires by the rule, and what it leaves of the
 -- lent marking is what the rule leads to (paper, section 3; 02, No. 4).
 pub record FiresBy (F : Rule) (n : Net) (m : List ℕ) (j : ℕ) (answer : Judged) (left : List ℕ) : Type 0 where
-  pub worked : (answer ≡ Fine (basic n).conditions) ↔ (E (basic n) j × F (basic n) (holding (marking m)) j (holding (marking left)))
+  pub worked : (answer ≡ Ok (basic n).conditions) ↔ (E (basic n) j × F (basic n) (holding (marking m)) j (holding (marking left)))
   pub only : (k : Marking) → holding k ⊆ B (basic n) → E (basic n) j → F (basic n) (holding (marking m)) j (holding k) → marking left ≡ k
 
 -- From one marking a list of events leads to another, each firing by the rule after those before it (paper, section 3).
@@ -116,7 +116,7 @@ LeadsTo F n m (e ∷ r) k = (u : Marking) × (holding u ⊆ B n) × E n e × F n
 -- A replay in the unfolded net, given room, is accepted exactly if the list leads somewhere by the rule from the unfolded start, and the
 -- marking that is written is where it leads to (paper, section 3; 02, No. 4).
 pub record ReplaysBy (F : Rule) (n : Net) (w : List ℕ) (answer : Judged) (out : List ℕ) : Type 0 where
-  pub worked : (answer ≡ Fine (basic n).conditions) ↔ ((k : Marking) × LeadsTo F (basic n) (begin (basic n)) w k)
+  pub worked : (answer ≡ Ok (basic n).conditions) ↔ ((k : Marking) × LeadsTo F (basic n) (begin (basic n)) w k)
   pub reached : (k : Marking) → LeadsTo F (basic n) (begin (basic n)) w k → marking (take (basic n).conditions out) ≡ k
 
 -- ---- the same on sets of unfolded conditions

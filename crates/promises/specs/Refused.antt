@@ -1,11 +1,12 @@
 -- Which refusals each call may give, and what a refusal leaves: demand 1.
 use Rattle.std.specs.Prelude.{◌≡◌, Bool, true, false, ◌&&◌, List, [], ◌∷◌, ◌++◌, ℕ, T}
 use Rattle.lists.specs.Lists.{mem, same}
-use Rattle.refusal.specs.declared.By.{By}
-use Rattle.refusal.specs.declared.By.TheVariants.{Nothing, Table, Unfolded}
+use Rattle.refusal.specs.Answer.{By}
+use Rattle.std.specs.Prelude.{None, Some}
+use Rattle.refusal.specs.declared.Condition.TheVariants.{Table, Unfolded}
 use Rattle.refusal.specs.declared.Refusal.{Refusal}
-use Rattle.refusal.specs.declared.Judged.{Judged}
-use Rattle.refusal.specs.declared.Judged.TheVariants.{Fine, Refused}
+use Rattle.refusal.specs.Answer.{Judged}
+use Rattle.std.specs.Prelude.{Ok, Err}
 use Rattle.outward.specs.declared.Answer.{Answer}
 
 -- ---- numbers by what is asked
@@ -110,9 +111,9 @@ by_condition = 11 ∷ 12 ∷ []
 
 -- A condition is named (02, No. 2).
 abbrev pub naming : By → Bool
-naming Nothing = false
-naming (Table b) = true
-naming (Unfolded b) = true
+naming None = false
+naming (Some (Table b)) = true
+naming (Some (Unfolded b)) = true
 
 -- A refusal names the condition exactly with 11 and 12 (02, No. 2).
 abbrev pub named : Refusal → Bool
@@ -120,13 +121,13 @@ named refusal = same (mem refusal.number by_condition) (naming refusal.by)
 
 -- An answer is fine, or refused with one of these numbers and, exactly with 11 and 12, with the condition (01, Refusal numbers; 02, No. 2).
 abbrev pub listed : List ℕ → Judged → Bool
-listed numbers (Fine value) = true
-listed numbers (Refused refusal) = mem refusal.number numbers && named refusal
+listed numbers (Ok value) = true
+listed numbers (Err refusal) = mem refusal.number numbers && named refusal
 
 -- A call is worked, or refused with one of these numbers, as above, while its lent memory stays as it was (01, Refusal numbers: demand 1).
 pub record Refusing (numbers : List ℕ) (answer : Judged) (old new : List ℕ) : Type 0 where
   pub number : T (listed numbers answer)
-  pub kept : (refusal : Refusal) → answer ≡ Refused refusal → new ≡ old
+  pub kept : (refusal : Refusal) → answer ≡ Err refusal → new ≡ old
 
 -- A call for C tells 0 or one of these numbers, a condition other than 0 only with 11 and 12, and where the number is not 0 what C lent
 -- stays as it was (01, Refusal numbers: demand 1; 02, No. 2).

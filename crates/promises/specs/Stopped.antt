@@ -7,8 +7,8 @@ use Rattle.model.specs.Unfolding.{basic}
 use Rattle.model.specs.Across.{Whose, too_long}
 use Rattle.model.specs.Stopped.{StoppedBy, StoppedAt}
 use Rattle.refusal.specs.declared.Refusal.{Refusal}
-use Rattle.refusal.specs.declared.Judged.{Judged}
-use Rattle.refusal.specs.declared.Judged.TheVariants.{Fine, Refused}
+use Rattle.refusal.specs.Answer.{Judged}
+use Rattle.std.specs.Prelude.{Ok, Err}
 use Rattle.refusal.specs.Answer.{refused_by, and_then}
 use Rattle.table.specs.Walk.{judge_of}
 use Rattle.table.specs.Decoded.{net_of}
@@ -38,7 +38,7 @@ before_run_from s m r rest = on_marking s m (λ n. refused_or (too_long r) rest)
 
 -- All that is judged before is accepted (01, Refusal numbers).
 abbrev pub Passes : (Judged → Judged) → Type 0
-Passes before = before (Fine 0) ≡ Fine 0
+Passes before = before (Ok 0) ≡ Ok 0
 
 -- ---- what is told
 
@@ -47,11 +47,11 @@ Passes before = before (Fine 0) ≡ Fine 0
 pub record FiringNames (before : Judged → Judged) (w : Whose) (n : Net) (m : Marking) (e : ℕ) (answer : Judged) : Type 0 where
   pub eleven : (b : ℕ) → (answer ≡ refused_by 11 b (by_in w (some b))) ↔ (Passes before × StoppedBy n m e (lacks b))
   pub twelve : (b : ℕ) → (answer ≡ refused_by 12 b (by_in w (some b))) ↔ (Passes before × StoppedBy n m e (meets b))
-  pub only : (x : Refusal) → answer ≡ Refused x → T (mem x.number by_condition) → x.by ≡ by_in w (some x.place)
+  pub only : (x : Refusal) → answer ≡ Err x → T (mem x.number by_condition) → x.by ≡ by_in w (some x.place)
 
 -- A run is refused with 11 at step i, and names b, exactly if all before is accepted, the steps before i are a run, and b is the lowest
 -- precondition that does not hold where they end; with 12 likewise; and no other condition is named (02, No. 2).
 pub record RunNames (before : Judged → Judged) (w : Whose) (n : Net) (m : Marking) (r : List ℕ) (answer : Judged) : Type 0 where
   pub eleven : (i b : ℕ) → (answer ≡ refused_by 11 i (by_in w (some b))) ↔ (Passes before × StoppedAt n 0 m r (lacks b) i)
   pub twelve : (i b : ℕ) → (answer ≡ refused_by 12 i (by_in w (some b))) ↔ (Passes before × StoppedAt n 0 m r (meets b) i)
-  pub only : (x : Refusal) → answer ≡ Refused x → T (mem x.number by_condition) → (b : ℕ) × (x.by ≡ by_in w (some b))
+  pub only : (x : Refusal) → answer ≡ Err x → T (mem x.number by_condition) → (b : ℕ) × (x.by ≡ by_in w (some b))

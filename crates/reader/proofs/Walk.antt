@@ -7,8 +7,8 @@ use mathlib.Core.Bool.{Bool, true, false, cond}
 use borrow.Author.Tests.{eq-eqb, ne_eqb, eqb-false, lt-ltb, le-ltb}
 use Rattle.words.specs.Words.{word_at}
 use Rattle.refusal.specs.declared.Refusal.{Refusal}
-use Rattle.refusal.specs.declared.Judged.{Judged}
-use Rattle.refusal.specs.declared.Judged.TheVariants.{Fine, Refused}
+use Rattle.refusal.specs.Answer.{Judged}
+use Rattle.std.specs.Prelude.{Ok, Err}
 use Rattle.refusal.specs.Answer.{refused_at, need, and_then}
 use Rattle.refusal.proofs.Chain.{never_both}
 use Rattle.records.specs.Records.{header_of, ruled, front, conditions}
@@ -69,22 +69,22 @@ abbrev lead : List ℕ → ℕ
 lead s = cond (ruled s) 1 0
 
 -- a reader at a fine record moves past it
-moved_to : (s : List ℕ) (k at next : ℕ) → place_after k s ≡ at → record_of s at ≡ Fine next → place_after (suc k) s ≡ next
+moved_to : (s : List ℕ) (k at next : ℕ) → place_after k s ≡ at → record_of s at ≡ Ok next → place_after (suc k) s ≡ next
 unfolding place_after next_of
 moved_to s k at next p r = ap (next_of s) p ∙ ap (λ (j : Judged). next_if j at) r
 
-later : (s : List ℕ) (j at next : ℕ) → place_after (lead s + j) s ≡ at → record_of s at ≡ Fine next → place_after (lead s + suc j) s ≡ next
+later : (s : List ℕ) (j at next : ℕ) → place_after (lead s + j) s ≡ at → record_of s at ≡ Ok next → place_after (lead s + suc j) s ≡ next
 later s j at next p r =
     let one : lead s + suc j ≡ suc (lead s + j) = omega arith in
     ap (λ (k : ℕ). place_after k s) one ∙ moved_to s (lead s + j) at next p r
 
 -- a reader at the last record
 comes_last : (s : List ℕ) (j at left : ℕ) → place_after (lead s + suc j) s ≡ at → j + left ≡ 256 → record_of s at ≡ marking_of s at
-    → (m : Judged) → marking_of s at ≡ m → ComesTo s (and_then m (λ _. Fine (256 - left)))
-comes_last s j at left p sum r (Fine next) e =
+    → (m : Judged) → marking_of s at ≡ m → ComesTo s (and_then m (λ _. Ok (256 - left)))
+comes_last s j at left p sum r (Ok next) e =
     let count : 256 - left ≡ j = omega arith in
     ap (λ (k : ℕ). place_after (lead s + suc (suc k)) s) count ∙ later s (suc j) at next p (r ∙ e) ∙ (marking_fine s at next e).ends
-comes_last s j at left p sum r (Refused refusal) e = (lead s + suc j, ap (record_of s) p ∙ r ∙ e)
+comes_last s j at left p sum r (Err refusal) e = (lead s + suc j, ap (record_of s) p ∙ r ∙ e)
 
 -- a reader past the Conditions record, after j events, with so many still allowed
 comes_from : (left j : ℕ) (s : List ℕ) (at : ℕ) → place_after (lead s + suc j) s ≡ at → at ≡ offset_of s j → front s < at → j + left ≡ 256
@@ -107,12 +107,12 @@ comes_from (suc left) j s at p o past sum = go (comes_from left (suc j) s) (kind
 
     event : ((at : ℕ) → place_after (lead s + suc (suc j)) s ≡ at → at ≡ offset_of s (suc j) → front s < at → suc j + left ≡ 256 → ComesTo s (events_from left s at))
         → record_of s at ≡ event_of s at → (x : Judged) → event_of s at ≡ x → ComesTo s (and_then x (events_from left s))
-    event ih r (Fine next) e =
+    event ih r (Ok next) e =
         let f = event_fine s at next e in
         let one : suc j ≡ j + 1 = omega arith in
         let last = ap (offset_of s) one ∙ offset_add j 1 s (front s + 4 + conditions s) ∙ ap (offset_from 1 s) (sym o) ∙ offset_one s at in
         ih next (later s (suc j) at next p (r ∙ e)) (f.next_is ∙ sym last) (omega (arith, f.next_is)) (omega arith)
-    event ih r (Refused refusal) e = (lead s + suc j, ap (record_of s) p ∙ r ∙ e)
+    event ih r (Err refusal) e = (lead s + suc j, ap (record_of s) p ∙ r ∙ e)
 
     go : ((at : ℕ) → place_after (lead s + suc (suc j)) s ≡ at → at ≡ offset_of s (suc j) → front s < at → suc j + left ≡ 256 → ComesTo s (events_from left s at))
         → (b : Bool) → kind_is 2 (header_of s at) ≡ b → ComesTo s (events_from (suc left) s at)
@@ -124,14 +124,14 @@ comes_from (suc left) j s at p o past sum = go (comes_from left (suc j) s) (kind
 -- a reader at the Conditions record
 comes_front : (s : List ℕ) (at : ℕ) → place_after (lead s + 0) s ≡ at → at ≡ front s → (x : Judged) → conditions_of s at ≡ x
     → ComesTo s (and_then x (events_from 256 s))
-comes_front s at p o (Fine next) e =
+comes_front s at p o (Ok next) e =
     let f = conditions_fine_lem s at next e in
     let first = f.next_is ∙ ap (λ (a : ℕ). a + 4 + word_at s a) o ∙ sym (offset_none s (front s + 4 + conditions s)) in
     comes_from 256 0 s next (later s 0 at next p (record_conditions s at o ∙ e)) first (omega (arith, f.next_is)) (omega arith)
-comes_front s at p o (Refused refusal) e = (lead s + 0, ap (record_of s) p ∙ record_conditions s at o ∙ e)
+comes_front s at p o (Err refusal) e = (lead s + 0, ap (record_of s) p ∙ record_conditions s at o ∙ e)
 
 -- a reader at the start, where a Rule record is moved past
-led : (s : List ℕ) (at : ℕ) → rule_of s ≡ Fine at → place_after (lead s + 0) s ≡ at
+led : (s : List ℕ) (at : ℕ) → rule_of s ≡ Ok at → place_after (lead s + 0) s ≡ at
 unfolding place_after
 led s at e = go (ruled s) refl
   where
@@ -139,10 +139,10 @@ led s at e = go (ruled s) refl
     go true h = moved_to s 0 0 at refl (record_rule s h ∙ e)
     go false h = sym (rule_fine s at e ∙ plain_front s h)
 
-refused_rule : (s : List ℕ) (refusal : Refusal) → rule_of s ≡ Refused refusal → record_of s 0 ≡ Refused refusal
+refused_rule : (s : List ℕ) (refusal : Refusal) → rule_of s ≡ Err refusal → record_of s 0 ≡ Err refusal
 refused_rule s refusal e = go (ruled s) refl
   where
-    go : (b : Bool) → ruled s ≡ b → record_of s 0 ≡ Refused refusal
+    go : (b : Bool) → ruled s ≡ b → record_of s 0 ≡ Err refusal
     go true h = record_rule s h ∙ e
     go false h = never_both (sym (rule_none s (eqb-false (word_at s 2) 6 h)) ∙ e)
 
@@ -152,5 +152,5 @@ unfolding place_after
 reader_comes s = rw (judge_starts s) (go (rule_of s) refl)
   where
     go : (x : Judged) → rule_of s ≡ x → ComesTo s (and_then x (λ at. and_then (conditions_of s at) (events_from 256 s)))
-    go (Fine at) e = comes_front s at (led s at e) (rule_fine s at e) (conditions_of s at) refl
-    go (Refused refusal) e = (0, refused_rule s refusal e)
+    go (Ok at) e = comes_front s at (led s at e) (rule_fine s at e) (conditions_of s at) refl
+    go (Err refusal) e = (0, refused_rule s refusal e)

@@ -1,7 +1,7 @@
 -- What a reader finds at its place in a table, and where it stands when moved.
 use Rattle.std.specs.Prelude.{cond, ℕ, zero, suc, ◌+◌, List, ◌≡◌, length, ltb, eqb}
-use Rattle.refusal.specs.declared.Judged.{Judged}
-use Rattle.refusal.specs.declared.Judged.TheVariants.{Fine, Refused}
+use Rattle.refusal.specs.Answer.{Judged}
+use Rattle.std.specs.Prelude.{Ok, Err}
 use Rattle.refusal.specs.Answer.{need}
 use Rattle.records.specs.Records.{header_of, ruled, front}
 use Rattle.rules.specs.Rules.{rule_of, conditions_of, marking_of}
@@ -20,8 +20,8 @@ record_of s at =
 
 -- The place that an answer leads to: one that is refused keeps the reader where it stands.
 abbrev pub next_if : Judged → ℕ → ℕ
-next_if (Fine next) at = next
-next_if (Refused refusal) at = at
+next_if (Ok next) at = next
+next_if (Err refusal) at = at
 
 -- The place after the record at a place; a refused record is not moved past (01, Table records).
 unfoldable pub next_of : List ℕ → ℕ → ℕ
@@ -36,5 +36,5 @@ place_after (suc k) s = next_of s (place_after k s)
 -- stands at the end after n + 2 moves, one more where a Rule record stands first, and in a refused one it comes to a record with that
 -- very refusal (01, Table records; 02, No. 4).
 abbrev pub ComesTo : List ℕ → Judged → Type 0
-ComesTo s (Fine n) = place_after (cond (ruled s) 1 0 + suc (suc n)) s ≡ length s
-ComesTo s (Refused refusal) = (k : ℕ) × (record_of s (place_after k s) ≡ Refused refusal)
+ComesTo s (Ok n) = place_after (cond (ruled s) 1 0 + suc (suc n)) s ≡ length s
+ComesTo s (Err refusal) = (k : ℕ) × (record_of s (place_after k s) ≡ Err refusal)

@@ -5,7 +5,7 @@
 ghost use Rattle.std.specs.Prelude.{◌≡◌};
 ghost use Rattle.reader.specs.Read.{record_of, next_of};
 
-use refusal::Judged;
+use refusal::Refusal;
 
 // A table and a place in it.
 #[derive(Clone, Copy)]
@@ -15,7 +15,7 @@ pub struct Reader<'a> {
 }
 
 // The record at a place, judged; fine: the place after it.
-pub fn record_at(table: &[u8], at: usize) -> Judged
+pub fn record_at(table: &[u8], at: usize) -> Result<usize, Refusal>
     ensures { result ≡ record_of table.now at }
 {
     if at == records::front(table) {
@@ -40,7 +40,7 @@ pub fn next_at(table: &[u8], at: usize) -> usize
     ensures { result ≡ next_of table.now at }
 {
     let r = record_at(table, at);
-    let Judged::Fine(next) = r else {
+    let Ok(next) = r else {
         return at;
     };
     next
@@ -61,7 +61,7 @@ pub fn place<'a>(r: Reader<'a>) -> usize
 }
 
 // The record at a reader's place, judged; fine: the place after it.
-pub fn record<'a>(r: Reader<'a>) -> Judged
+pub fn record<'a>(r: Reader<'a>) -> Result<usize, Refusal>
     ensures { result ≡ record_of r.entry.table.now r.entry.at }
 {
     record_at(r.table, r.at)
@@ -78,7 +78,7 @@ pub fn moved<'a>(r: Reader<'a>) -> Reader<'a>
 }
 
 // The second record of a table, by a reader moved once.
-pub fn second(table: &[u8]) -> Judged
+pub fn second(table: &[u8]) -> Result<usize, Refusal>
     ensures { result ≡ record_of table.now (next_of table.now 0) }
 {
     record(moved(over(table)))

@@ -1,23 +1,25 @@
 -- What stands in a record of a table: its header and its lists.
-use Rattle.std.specs.Prelude.{ℕ, ◌+◌, ◌*◌, List, Bool, ◌&&◌, cond, length, get_or, take, drop, leb, eqb}
-use Rattle.refusal.specs.declared.Judged.{Judged}
-use Rattle.refusal.specs.Answer.{refused_at}
+use Rattle.std.specs.Prelude.{ℕ, ◌+◌, ◌*◌, List, Bool, ◌&&◌, cond, length, get_or, take, drop, leb, eqb, Option, None, Some}
+use Rattle.refusal.specs.Answer.{Judged, refused_at}
 use Rattle.words.specs.Words.{word_at}
 use Rattle.records.specs.declared.Header.{Header}
-use Rattle.records.specs.declared.Header.TheVariants.{Whole, Short}
 
 -- So many bytes from a place on, or as many as there are.
 abbrev pub part : List ℕ → ℕ → ℕ → List ℕ
 part s a k = take k (drop a s)
 
+-- A header that is there whole, by its kind and its length.
+abbrev pub whole : ℕ → ℕ → Option Header
+whole kind len = Some (record { kind = kind; len = len })
+
 -- The header at an offset: length and kind, where the payload is there whole (01, Table records).
-unfoldable pub header_of : List ℕ → ℕ → Header
-header_of s at = cond (leb (at + 4 + word_at s at) (length s)) (Whole (word_at s (at + 2)) (word_at s at)) Short
+unfoldable pub header_of : List ℕ → ℕ → Option Header
+header_of s at = cond (leb (at + 4 + word_at s at) (length s)) (whole (word_at s (at + 2)) (word_at s at)) None
 
 -- What a whole header leads to; one that is not whole is refused with 1 (01, Refusal numbers).
-abbrev pub when_whole : Header → ℕ → (ℕ → ℕ → Judged) → Judged
-when_whole Short at f = refused_at 1 at
-when_whole (Whole kind len) at f = f kind len
+abbrev pub when_whole : Option Header → ℕ → (ℕ → ℕ → Judged) → Judged
+when_whole None at f = refused_at 1 at
+when_whole (Some header) at f = f header.kind header.len
 
 -- A Rule record stands first: the first header has its kind (02, No. 4).
 abbrev pub ruled : List ℕ → Bool

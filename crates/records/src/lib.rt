@@ -5,11 +5,11 @@ ghost use Rattle.std.specs.Prelude.{◌≡◌, ◌+◌, ◌*◌};
 ghost use Rattle.records.specs.Records.{part, header_of, old_rule, front, conditions, flags, pre_count, pre_part, post_part, marking_part};
 ghost use Rattle.records.specs.Parts.{Part, place_in};
 
-// A header whose payload is there whole, or not.
+// The header of a record whose payload is there whole.
 #[derive(Clone, Copy)]
-pub enum Header {
-    Whole { kind: u16, len: usize },
-    Short,
+pub struct Header {
+    pub kind: u16,
+    pub len: usize,
 }
 
 // The part of s that has k bytes from a on, or as many as there are, with where it lies.
@@ -33,21 +33,21 @@ pub fn part_of(s: &[u8], a: usize, k: usize) -> &[u8]
     shown(s, a, k)
 }
 
-// The header at an offset.
-pub fn header_at(s: &[u8], at: usize) -> Header
+// The header at an offset, where the payload is there whole.
+pub fn header_at(s: &[u8], at: usize) -> Option<Header>
     ensures { result ≡ header_of s.now at }
 {
     if s.len() <= at {
-        return Header::Short;
+        return None;
     }
     let len = words::word(s, at) as usize;
     if s.len() - at < 4 + len {
-        return Header::Short;
+        return None;
     }
-    Header::Whole {
+    Some(Header {
         kind: words::word(s, at + 2),
         len,
-    }
+    })
 }
 
 // Whether a table asks for the old rule, by its first record.

@@ -2,7 +2,7 @@
 #![tactic(auto)]
 
 ghost use Rattle.std.specs.Prelude.{◌≡◌};
-ghost use Rattle.refusal.specs.Answer.{refused_at, refused_by, number_of, place_of, by_of, value_of};
+ghost use Rattle.refusal.specs.Answer.{condition_number, refused_at, refused_by, number_of, place_of, by_of, value_of};
 
 // A run has at most this many steps.
 pub const MOST_STEPS: usize = 4096;
@@ -26,27 +26,31 @@ pub struct TableCondition(pub u16);
 #[derive(Clone, Copy)]
 pub struct UnfoldedCondition(pub u16);
 
-// The condition that stopped a step: one of the table or one of the unfolding; nothing for every number but 11 and 12.
+// A condition that stopped a step: one of the table or one of the unfolding.
 #[derive(Clone, Copy)]
-pub enum By {
-    Nothing,
+pub enum Condition {
     Table(TableCondition),
     Unfolded(UnfoldedCondition),
 }
 
-// Why a call is refused, by number, and where; beside it the condition that stopped a step.
+impl Condition {
+    // Its number, in the numbering that it belongs to.
+    pub fn number(self) -> u16
+        ensures { result ≡ condition_number self }
+    {
+        match self {
+            Condition::Table(b) => b.0,
+            Condition::Unfolded(b) => b.0,
+        }
+    }
+}
+
+// Why a call is refused, by number, and where; beside it the condition that stopped a step, for the numbers 11 and 12 alone.
 #[derive(Clone, Copy)]
 pub struct Refusal {
     pub number: u8,
     pub place: usize,
-    pub by: By,
-}
-
-// An offset or a count, or the refusal.
-#[derive(Clone, Copy)]
-pub enum Judged {
-    Fine(usize),
-    Refused(Refusal),
+    pub by: Option<Condition>,
 }
 
 // What marked a persistent condition: the start, or an event of the table.
@@ -57,55 +61,55 @@ pub enum Marker {
 }
 
 // The refusal as an answer, with no condition.
-pub fn refused(number: u8, place: usize) -> Judged
+pub fn refused(number: u8, place: usize) -> Result<usize, Refusal>
     ensures { result ≡ refused_at number place }
 {
-    refused_by(number, place, By::Nothing)
+    refused_by(number, place, None)
 }
 
 // The refusal as an answer, with what stopped a step.
-pub fn refused_by(number: u8, place: usize, by: By) -> Judged
+pub fn refused_by(number: u8, place: usize, by: Option<Condition>) -> Result<usize, Refusal>
     ensures { result ≡ refused_by number place by }
 {
-    Judged::Refused(Refusal { number, place, by })
+    Err(Refusal { number, place, by })
 }
 
 // The number of an answer: 0 where it is fine.
-pub fn number_of(answer: Judged) -> u8
+pub fn number_of(answer: Result<usize, Refusal>) -> u8
     ensures { result ≡ number_of answer }
 {
     match answer {
-        Judged::Fine(_) => 0,
-        Judged::Refused(refusal) => refusal.number,
+        Ok(_) => 0,
+        Err(refusal) => refusal.number,
     }
 }
 
 // The place of an answer: 0 where it is fine.
-pub fn place_of(answer: Judged) -> usize
+pub fn place_of(answer: Result<usize, Refusal>) -> usize
     ensures { result ≡ place_of answer }
 {
     match answer {
-        Judged::Fine(_) => 0,
-        Judged::Refused(refusal) => refusal.place,
+        Ok(_) => 0,
+        Err(refusal) => refusal.place,
     }
 }
 
 // What stopped a step, by an answer: nothing where it is fine.
-pub fn by_of(answer: Judged) -> By
+pub fn by_of(answer: Result<usize, Refusal>) -> Option<Condition>
     ensures { result ≡ by_of answer }
 {
     match answer {
-        Judged::Fine(_) => By::Nothing,
-        Judged::Refused(refusal) => refusal.by,
+        Ok(_) => None,
+        Err(refusal) => refusal.by,
     }
 }
 
 // The value of an answer: 0 where it is refused.
-pub fn value_of(answer: Judged) -> usize
+pub fn value_of(answer: Result<usize, Refusal>) -> usize
     ensures { result ≡ value_of answer }
 {
     match answer {
-        Judged::Fine(value) => value,
-        Judged::Refused(_) => 0,
+        Ok(value) => value,
+        Err(_) => 0,
     }
 }

@@ -3,16 +3,16 @@ use Prim.Native.Nat.{ℕ}
 use mathlib.Core.Path.{◌≡◌, ◌∙◌}
 use mathlib.Core.List.{List}
 use Rattle.model.specs.Lent.{marking}
-use Rattle.refusal.specs.declared.Judged.TheVariants.{Fine}
+use Rattle.std.specs.Prelude.{Ok}
 use Rattle.table.specs.Walk.{judge_of}
 use Rattle.held.specs.Held.{held_in, tabled}
 use Rattle.held.proofs.Words.{tabled_marking}
 use Rattle.game.specs.Calls.{on_marking}
 use Rattle.game.proofs.Marked.{on_fine}
 
-module _ (s m : List ℕ) (n : ℕ) (j : on_marking s m Fine ≡ Fine n) where
-  pub lent_judged : judge_of s ≡ Fine n
-  lent_judged = let k = on_fine s m Fine n j in k.judged ∙ k.goes
+module _ (s m : List ℕ) (n : ℕ) (j : on_marking s m Ok ≡ Ok n) where
+  pub lent_judged : judge_of s ≡ Ok n
+  lent_judged = let k = on_fine s m Ok n j in k.judged ∙ k.goes
 
   pub lent_gathered : (held : List ℕ) → held_in held ≡ tabled (marking m) → held_in held ≡ marking m
-  lent_gathered held e = e ∙ tabled_marking m (on_fine s m Fine n j).few
+  lent_gathered held e = e ∙ tabled_marking m (on_fine s m Ok n j).few

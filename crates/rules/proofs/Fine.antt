@@ -9,7 +9,7 @@ use lib.ListN.{length, get_or}
 use borrow.Author.Tests.{leb-true, eqb-true}
 use Rattle.lists.specs.Lists.{fits}
 use Rattle.words.specs.Words.{word_at, words, bits}
-use Rattle.refusal.specs.declared.Judged.TheVariants.{Fine}
+use Rattle.std.specs.Prelude.{Ok}
 use Rattle.refusal.specs.Answer.{need}
 use Rattle.refusal.proofs.Chain.{need_fine}
 use Rattle.records.specs.Records.{part, header_of, when_whole, ruled, front, conditions, marking_part}
@@ -17,11 +17,11 @@ use Rattle.rules.specs.Rules.{rule_of, conditions_of, marking_of}
 use Rattle.records.proofs.Headers.{known, whole_fine}
 
 -- after the first record, if it is a Rule record, stands the Conditions record
-pub rule_fine : (s : List ℕ) (next : ℕ) → rule_of s ≡ Fine next → next ≡ front s
+pub rule_fine : (s : List ℕ) (next : ℕ) → rule_of s ≡ Ok next → next ≡ front s
 unfolding rule_of front
 rule_fine s next e = go (ruled s) e
   where
-    go : (b : Bool) → cond b (when_whole (header_of s 0) 0 (λ kind len. need (eqb len 1) 3 0 (need (leb (get_or s 4 0) 1) 4 0 (Fine 5)))) (Fine 0) ≡ Fine next
+    go : (b : Bool) → cond b (when_whole (header_of s 0) 0 (λ kind len. need (eqb len 1) 3 0 (need (leb (get_or s 4 0) 1) 4 0 (Ok 5)))) (Ok 0) ≡ Ok next
         → next ≡ cond b 5 0
     go true e =
         let (kind, len, w, e0) = whole_fine (header_of s 0) 0 _ next e in
@@ -37,7 +37,7 @@ pub record ConditionsFine (s : List ℕ) (at next : ℕ) : Type 0 where
   pub most : word_at s at ≤ 256
   pub zero_or_one : bits (part s (at + 4) (word_at s at)) ≡ true
 
-pub conditions_fine_lem : (s : List ℕ) (at next : ℕ) → conditions_of s at ≡ Fine next → ConditionsFine s at next
+pub conditions_fine_lem : (s : List ℕ) (at next : ℕ) → conditions_of s at ≡ Ok next → ConditionsFine s at next
 unfolding conditions_of
 conditions_fine_lem s at next e =
     let (kind, len, w, e0) = whole_fine (header_of s at) at _ next e in
@@ -63,7 +63,7 @@ pub record MarkingFine (s : List ℕ) (at next : ℕ) : Type 0 where
   pub even : word_at s at % 2 ≡ 0
   pub ascends : fits (conditions s) (words (marking_part s at)) ≡ true
 
-pub marking_fine : (s : List ℕ) (at next : ℕ) → marking_of s at ≡ Fine next → MarkingFine s at next
+pub marking_fine : (s : List ℕ) (at next : ℕ) → marking_of s at ≡ Ok next → MarkingFine s at next
 unfolding marking_of
 marking_fine s at next e =
     let (kind, len, w, e0) = whole_fine (header_of s at) at _ next e in

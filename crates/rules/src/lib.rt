@@ -5,17 +5,16 @@ ghost use Rattle.std.specs.Prelude.{◌≡◌};
 ghost use Rattle.rules.specs.Rules.{rule_of, conditions_of, marking_of};
 
 use records::Header;
-use refusal::Judged;
+use refusal::Refusal;
 
 // The Rule record, where one stands first; fine: the offset after it, which is 0 where there is none.
-pub fn rule_record(s: &[u8]) -> Judged
+pub fn rule_record(s: &[u8]) -> Result<usize, Refusal>
     ensures { result ≡ rule_of s.now }
 {
     if words::word(s, 2) != 6 {
-        return Judged::Fine(0);
+        return Ok(0);
     }
-    let h = records::header_at(s, 0);
-    let Header::Whole { kind: _, len } = h else {
+    let Some(Header { kind: _, len }) = records::header_at(s, 0) else {
         return refusal::refused(1, 0);
     };
     if len != 1 {
@@ -24,15 +23,14 @@ pub fn rule_record(s: &[u8]) -> Judged
     if 1 < words::byte(s, 4) {
         return refusal::refused(4, 0);
     }
-    Judged::Fine(5)
+    Ok(5)
 }
 
 // The Conditions record at an offset; fine: the offset after it.
-pub fn conditions_record(s: &[u8], at: usize) -> Judged
+pub fn conditions_record(s: &[u8], at: usize) -> Result<usize, Refusal>
     ensures { result ≡ conditions_of s.now at }
 {
-    let h = records::header_at(s, at);
-    let Header::Whole { kind, len } = h else {
+    let Some(Header { kind, len }) = records::header_at(s, at) else {
         return refusal::refused(1, at);
     };
     if kind != 1 {
@@ -45,18 +43,17 @@ pub fn conditions_record(s: &[u8], at: usize) -> Judged
         return refusal::refused(3, at);
     }
     if words::all_bits(records::part_of(s, at + 4, len)) {
-        Judged::Fine(at + 4 + len)
+        Ok(at + 4 + len)
     } else {
         refusal::refused(4, at)
     }
 }
 
 // The Marking record at an offset, after which nothing may stand; fine: the offset after it.
-pub fn marking_record(s: &[u8], at: usize) -> Judged
+pub fn marking_record(s: &[u8], at: usize) -> Result<usize, Refusal>
     ensures { result ≡ marking_of s.now at }
 {
-    let h = records::header_at(s, at);
-    let Header::Whole { kind, len } = h else {
+    let Some(Header { kind, len }) = records::header_at(s, at) else {
         return refusal::refused(1, at);
     };
     if kind != 3 {
@@ -73,5 +70,5 @@ pub fn marking_record(s: &[u8], at: usize) -> Judged
     if next < s.len() {
         return refusal::refused(9, next);
     }
-    Judged::Fine(next)
+    Ok(next)
 }

@@ -8,7 +8,7 @@ use lib.ListN.{length, get_or, drop, length-drop}
 use lib.Seq.{take_all, get_or-drop}
 use borrow.Author.Tests.{le-leb, eq-eqb, leb-true, eqb-true}
 use Rattle.model.specs.Across.{most_steps}
-use Rattle.refusal.specs.declared.Judged.TheVariants.{Fine}
+use Rattle.std.specs.Prelude.{Ok}
 use Rattle.refusal.specs.Answer.{need}
 use Rattle.refusal.proofs.Chain.{need_fine}
 use Rattle.words.specs.Words.{word_at}
@@ -25,7 +25,7 @@ pub record IsRecord (kind : ℕ) (bytes : List ℕ) (n : ℕ) : Type 0 where
   pub few : n ≤ most_steps
 
 -- An input is found to have n steps exactly if it is a record of n steps.
-pub fine_is_record : (kind : ℕ) (bytes : List ℕ) (n : ℕ) → steps_in kind bytes ≡ Fine n → IsRecord kind bytes n
+pub fine_is_record : (kind : ℕ) (bytes : List ℕ) (n : ℕ) → steps_in kind bytes ≡ Ok n → IsRecord kind bytes n
 unfolding steps_in
 fine_is_record kind bytes n e =
     let (found, len, whole, e0) = whole_fine (header_of bytes 0) 0 _ n e in
@@ -43,7 +43,7 @@ fine_is_record kind bytes n e =
       few = omega (arith, leb-true (len / 2) most_steps few);
     }
 
-pub record_is_fine : (kind : ℕ) (bytes : List ℕ) (n : ℕ) → IsRecord kind bytes n → steps_in kind bytes ≡ Fine n
+pub record_is_fine : (kind : ℕ) (bytes : List ℕ) (n : ℕ) → IsRecord kind bytes n → steps_in kind bytes ≡ Ok n
 unfolding steps_in need
 record_is_fine kind bytes n r =
     let header = header_whole bytes 0 kind (2 * n) (sym r.kind_is) (sym r.length_is) (omega arith) in

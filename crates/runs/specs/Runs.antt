@@ -1,8 +1,8 @@
 -- What reading a Run or a Lifted record answers, and what it leaves in the lent run.
 use Rattle.std.specs.Prelude.{ℕ, ◌+◌, ◌/◌, ◌%◌, List, leb, eqb, length}
 use Rattle.model.specs.Across.{most_steps}
-use Rattle.refusal.specs.declared.Judged.{Judged}
-use Rattle.refusal.specs.declared.Judged.TheVariants.{Fine}
+use Rattle.refusal.specs.Answer.{Judged}
+use Rattle.std.specs.Prelude.{Ok}
 use Rattle.refusal.specs.Answer.{need, and_then, fitting, written}
 use Rattle.words.specs.Words.{word_at, words}
 use Rattle.records.specs.Records.{part, header_of, when_whole}
@@ -22,7 +22,7 @@ steps_in kind bytes = when_whole (header_of bytes 0) 0 (λ found len.
     (need (eqb (len % 2) 0) 3 0
     (need (leb (len / 2) most_steps) 3 0
     (need (leb (length bytes) (4 + len)) 9 (4 + len)
-    (Fine (len / 2))))))
+    (Ok (len / 2))))))
 
 -- What reading answers: the number of steps, once the record is judged and they fit (01, Runs across).
 unfoldable pub read_answer : ℕ → List ℕ → ℕ → Judged

@@ -3,7 +3,7 @@
 #![tactic(auto)]
 
 use parts::Persistence;
-use refusal::{Judged, TableCondition, TableEvent};
+use refusal::{Refusal, TableCondition, TableEvent};
 use std::io;
 
 // One number after a space.
@@ -13,15 +13,15 @@ fn number(rt: &impl Print, value: usize) -> io::Result<()> {
 }
 
 // One answer to the end of its line: what it tells, or the refusal.
-fn tell(rt: &impl Print, answer: Judged) -> io::Result<()> {
+fn tell(rt: &impl Print, answer: Result<usize, Refusal>) -> io::Result<()> {
     rt.write_all(b": ")?;
     match answer {
-        Judged::Fine(value) => {
+        Ok(value) => {
             rt.write_all(b"fine")?;
             number(rt, value)?;
             rt.write_all(b"\n")
         }
-        Judged::Refused(_) => files::refuse(rt, answer),
+        Err(_) => files::refuse(rt, answer),
     }
 }
 
@@ -93,7 +93,7 @@ fn kind(rt: &impl Print, answer: Persistence) -> io::Result<()> {
     match answer {
         Persistence::Ordinary => rt.write_all(b"ordinary\n"),
         Persistence::Persistent => rt.write_all(b"persistent\n"),
-        Persistence::Refused(refusal) => files::refuse(rt, Judged::Refused(refusal)),
+        Persistence::Refused(refusal) => files::refuse(rt, Err(refusal)),
     }
 }
 
@@ -148,7 +148,7 @@ fn replayed_file<'a>(
 ) -> io::Result<()> {
     let mut steps = [0u16; 4096];
     let answer = runs::read_run(run, &mut steps);
-    let Judged::Fine(count) = answer else {
+    let Ok(count) = answer else {
         rt.write_all(b"run")?;
         return tell(rt, answer);
     };

@@ -10,7 +10,7 @@ use Rattle.lists.specs.Lists.{sum}
 use Rattle.model.specs.Net.{Net}
 use Rattle.model.specs.Numbering.{size, event_count}
 use Rattle.model.specs.Across.{Refusal, unfolding_refused}
-use Rattle.refusal.specs.declared.Judged.TheVariants.{Fine}
+use Rattle.std.specs.Prelude.{Ok}
 use Rattle.refusal.proofs.Chain.{never_both, then_fine}
 use Rattle.table.specs.Walk.{judge_of}
 use Rattle.table.specs.Links.{refused_or}
@@ -37,15 +37,15 @@ use Rattle.spots.proofs.Ranges.{sum_most, size_next, sizes_whole}
 
 -- ---- a table that unfolds
 
-not_refused : (o : Option Refusal) → refused_or o (Fine 0) ≡ Fine 0 → o ≡ none
+not_refused : (o : Option Refusal) → refused_or o (Ok 0) ≡ Ok 0 → o ≡ none
 not_refused none e = refl
 not_refused (some x) e = never_both (sym e)
 
 -- it was judged, and nothing of its unfolding is refused
-pub unfolds_fine : (s : List ℕ) → unfolding_of s (Fine 0) ≡ Fine 0 → (k : ℕ) × (judge_of s ≡ Fine k) × (unfolding_refused (net_of s) ≡ none)
+pub unfolds_fine : (s : List ℕ) → unfolding_of s (Ok 0) ≡ Ok 0 → (k : ℕ) × (judge_of s ≡ Ok k) × (unfolding_refused (net_of s) ≡ none)
 unfolding unfolding_of
 unfolds_fine s e =
-    let q = then_fine (judge_of s) (λ _. refused_or (unfolding_refused (net_of s)) (Fine 0)) 0 e in
+    let q = then_fine (judge_of s) (λ _. refused_or (unfolding_refused (net_of s)) (Ok 0)) 0 e in
     (q.0, q.1, not_refused (unfolding_refused (net_of s)) q.2)
 
 -- ---- few arcs
@@ -164,7 +164,7 @@ module _ {s ms us bs : List ℕ} where
 
     open_some : {own : Owner} {t b : ℕ} → Open s ms us bs marks uses starts sizes own t b → Unfolds s ms us bs (net_of s).events → 0 < arcs_at (net_of s) t
     open_some {own} {t} o u =
-        let f = unfolds_fine s (u.unfolds (Fine 0)) in
+        let f = unfolds_fine s (u.unfolds (Ok 0)) in
         arcs_some s f.0 f.1 f.2 t (omega (arith, o.told, owned_low o.owned, events_basic (net_of s)))
 
     pub spot_first : {own : Owner} {t b : ℕ} → Open s ms us bs marks uses starts sizes own t b → Unfolds s ms us bs (net_of s).events → (k r : ℕ) → k ≡ 8 * (net_of s).conditions → Skips sizes k 0 r

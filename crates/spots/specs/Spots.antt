@@ -3,7 +3,7 @@ use Rattle.std.specs.Prelude.{ℕ, ◌+◌, ◌*◌, ◌≤◌, ◌<◌, ◌≡�
 use Rattle.lists.specs.Lists.{sum}
 use Rattle.model.specs.Net.{Net}
 use Rattle.model.specs.Numbering.{size, event_count}
-use Rattle.refusal.specs.declared.Judged.{Judged}
+use Rattle.refusal.specs.Answer.{Judged}
 use Rattle.table.specs.Decoded.{net_of}
 use Rattle.layout.specs.Laid.{Laid}
 use Rattle.layout.specs.Unfolds.{unfolding_of}

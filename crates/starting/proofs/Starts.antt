@@ -11,8 +11,8 @@ use Rattle.model.specs.Unfolding.{basic}
 use Rattle.model.proofs.Lent.{length_bytes, zeros_say}
 use Rattle.model.proofs.Counts.{count_conditions}
 use Rattle.refusal.specs.declared.Refusal.{Refusal}
-use Rattle.refusal.specs.declared.Judged.{Judged}
-use Rattle.refusal.specs.declared.Judged.TheVariants.{Fine, Refused}
+use Rattle.refusal.specs.Answer.{Judged}
+use Rattle.std.specs.Prelude.{Ok, Err}
 use Rattle.refusal.specs.Answer.{refused_at, written}
 use Rattle.refusal.proofs.Chain.{fitting_room, fitting_short}
 use Rattle.records.specs.Records.{conditions}
@@ -36,22 +36,22 @@ start_written n m e out after w =
 -- ---- how the call answers
 
 -- a table that was laid out was judged, with as many events
-pub laid_judged : (s : List ℕ) {r : Judged} → r ≡ unfolding_of s (Fine (net_of s).events) → {m : ℕ} → r ≡ Fine m → judge_of s ≡ Fine m
+pub laid_judged : (s : List ℕ) {r : Judged} → r ≡ unfolding_of s (Ok (net_of s).events) → {m : ℕ} → r ≡ Ok m → judge_of s ≡ Ok m
 laid_judged s e {m} t =
-    let j = unfolds_judged s (Fine 0) (net_of s).events e t in
-    j.1 ∙ ap Fine (events_are_all s j.0 j.1 ∙ sym (unfolds_on s (Fine 0) (net_of s).events e t).1)
+    let j = unfolds_judged s (Ok 0) (net_of s).events e t in
+    j.1 ∙ ap Ok (events_are_all s j.0 j.1 ∙ sym (unfolds_on s (Ok 0) (net_of s).events e t).1)
 
 -- the sum after the last condition counts the unfolded conditions
-pub count_is : (s ms us bases : List ℕ) (k : ℕ) → judge_of s ≡ Fine k → Laid s ms us bases → (w : ℕ) → w ≡ conditions s → get_or bases w 0 ≡ (basic (net_of s)).conditions
+pub count_is : (s ms us bases : List ℕ) (k : ℕ) → judge_of s ≡ Ok k → Laid s ms us bases → (w : ℕ) → w ≡ conditions s → get_or bases w 0 ≡ (basic (net_of s)).conditions
 unfolding basic
 count_is s ms us bases k j l w e = ap (λ (x : ℕ). get_or bases x 0) e ∙ count_read s k j bases l.sums ∙ sym (count_conditions (net_of s))
 
 module _ (s out : List ℕ) where
-  pub start_refused : {r : Judged} {x : Refusal} → r ≡ unfolded_start_of s (length out) → r ≡ Refused x → out ≡ unfolded_started_of s out
+  pub start_refused : {r : Judged} {x : Refusal} → r ≡ unfolded_start_of s (length out) → r ≡ Err x → out ≡ unfolded_started_of s out
   unfolding unfolded_started_of
   start_refused e t = sym (ap (λ (a : Judged). written a (bytes (basic (net_of s)).conditions (begin (basic (net_of s)))) out) (sym e ∙ t))
 
-  pub start_fine : {r : Judged} {k : ℕ} → r ≡ unfolded_start_of s (length out) → r ≡ Fine k → (after : List ℕ)
+  pub start_fine : {r : Judged} {k : ℕ} → r ≡ unfolded_start_of s (length out) → r ≡ Ok k → (after : List ℕ)
       → after ≡ bytes (basic (net_of s)).conditions (begin (basic (net_of s))) ++ drop (basic (net_of s)).conditions out → after ≡ unfolded_started_of s out
   unfolding unfolded_started_of
   start_fine e t after w =
@@ -64,6 +64,6 @@ module _ (s out : List ℕ) where
     start_short h =
         ap (refused_at 16) c ∙ sym (u _ ∙ fitting_short (basic (net_of s)).conditions (length out) (omega arith))
 
-    pub start_room : count ≤ length out → Fine count ≡ unfolded_start_of s (length out)
+    pub start_room : count ≤ length out → Ok count ≡ unfolded_start_of s (length out)
     unfolding unfolded_start_of
-    start_room h = ap Fine c ∙ sym (u _ ∙ fitting_room (basic (net_of s)).conditions (length out) (omega arith))
+    start_room h = ap Ok c ∙ sym (u _ ∙ fitting_room (basic (net_of s)).conditions (length out) (omega arith))

@@ -2,10 +2,11 @@
 use Rattle.std.specs.Prelude.{cond, List, [], ◌∷◌, ℕ, eqb, get_or, set}
 use Rattle.std.proofs.Math.Option.{Option, none, some}
 use Rattle.model.specs.Net.{Net, Stop, unknown, lacks, meets}
-use Rattle.refusal.specs.declared.By.{By}
-use Rattle.refusal.specs.declared.By.TheVariants as by
-use Rattle.refusal.specs.declared.Judged.{Judged}
-use Rattle.refusal.specs.declared.Judged.TheVariants.{Fine}
+use Rattle.refusal.specs.Answer.{By}
+use Rattle.std.specs.Prelude.{None, Some}
+use Rattle.refusal.specs.declared.Condition.TheVariants as condition
+use Rattle.refusal.specs.Answer.{Judged}
+use Rattle.std.specs.Prelude.{Ok}
 use Rattle.refusal.specs.Answer.{refused_by}
 use Rattle.words.specs.Words.{words}
 use Rattle.records.specs.Records.{old_rule, conditions, flags, pre_part, post_part}
@@ -77,9 +78,9 @@ stepped (some v) new old = old
 
 -- The condition that stops a step, if one does (02, No. 2).
 abbrev pub cause_by : Cause → By
-cause_by Unknown = by.Nothing
-cause_by (Lacks b) = by.Table b
-cause_by (Meets b) = by.Table b
+cause_by Unknown = None
+cause_by (Lacks b) = Some (condition.Table b)
+cause_by (Meets b) = Some (condition.Table b)
 
 -- The place of a firing that is no step of a run: that condition, and 0 where there is none (02, No. 2).
 abbrev pub cause_place : Cause → ℕ
@@ -93,5 +94,5 @@ stopped_at x place = refused_by (cause_number x) place (cause_by x)
 
 -- A firing's answer as that of a call: a value where it goes, else the refusal at the condition (01, Refusal numbers; 02, No. 2).
 abbrev pub answered_of : Step → ℕ → Judged
-answered_of Goes value = Fine value
+answered_of Goes value = Ok value
 answered_of (Stops x) value = stopped_at x (cause_place x)

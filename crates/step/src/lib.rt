@@ -13,7 +13,7 @@ ghost use Rattle.step.specs.Lent.{Lent};
 ghost use Rattle.step.specs.Tests.{lowest, told_of, Listed, Recorded, Keeps, moved};
 ghost use Rattle.step.specs.Steps.{failing_of, set_one, set_all, lists_net, record_net, cause_number, cause_by, cause_place, stopped_at, step_of, stepped, answered_of};
 
-use refusal::{By, Judged, TableCondition};
+use refusal::{Condition, Refusal, TableCondition};
 
 // What stops a step: there is no such event, or the lowest condition that is lacking or in contact.
 #[derive(Clone, Copy)]
@@ -202,13 +202,13 @@ fn cause_number(cause: Cause) -> u8
 }
 
 // The condition that stops a step, if one does.
-fn cause_by(cause: Cause) -> By
+fn cause_by(cause: Cause) -> Option<Condition>
     ensures { result ≡ cause_by cause }
 {
     match cause {
-        Cause::Unknown => By::Nothing,
-        Cause::Lacks(b) => By::Table(b),
-        Cause::Meets(b) => By::Table(b),
+        Cause::Unknown => None,
+        Cause::Lacks(b) => Some(Condition::Table(b)),
+        Cause::Meets(b) => Some(Condition::Table(b)),
     }
 }
 
@@ -224,18 +224,18 @@ fn cause_place(cause: Cause) -> usize
 }
 
 // What stops a step as the refusal at a place.
-pub fn stopped_at(cause: Cause, place: usize) -> Judged
+pub fn stopped_at(cause: Cause, place: usize) -> Result<usize, Refusal>
     ensures { result ≡ stopped_at cause place }
 {
     refusal::refused_by(cause_number(cause), place, cause_by(cause))
 }
 
 // A firing's answer as that of a call: a value where it goes, else the refusal at the condition.
-pub fn answered(step: Step, value: usize) -> Judged
+pub fn answered(step: Step, value: usize) -> Result<usize, Refusal>
     ensures { result ≡ answered_of step value }
 {
     match step {
-        Step::Goes => Judged::Fine(value),
+        Step::Goes => Ok(value),
         Step::Stops(cause) => stopped_at(cause, cause_place(cause)),
     }
 }

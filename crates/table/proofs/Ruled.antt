@@ -6,7 +6,7 @@ use mathlib.Core.Bool.{true, false}
 use lib.Dec.{eqb}
 use lib.ListN.{get_or}
 use Rattle.model.specs.Net.{Net}
-use Rattle.refusal.specs.declared.Judged.TheVariants.{Fine}
+use Rattle.std.specs.Prelude.{Ok}
 use Rattle.refusal.specs.Answer.{and_then}
 use Rattle.records.specs.Records.{ruled, old_rule, front}
 use Rattle.rules.specs.Rules.{rule_of, conditions_of}
@@ -25,9 +25,9 @@ module _ (s : List ℕ) (plain : ruled s ≡ false) where
   plain_judge = simp plain
 
 -- the rule of an accepted table, at any condition: what the Rule record's byte says, and 0 where there is none
-module _ (s : List ℕ) (n : ℕ) (j : judge_of s ≡ Fine n) (b : ℕ) where
+module _ (s : List ℕ) (n : ℕ) (j : judge_of s ≡ Ok n) (b : ℕ) where
   pub rule_read : (net_of s).old b ≡ old_rule s
-  rule_read = ap (λ (m : Net). m.old b) (net_judged s (Fine n) j)
+  rule_read = ap (λ (m : Net). m.old b) (net_judged s (Ok n) j)
 
   pub rule_byte : ruled s ≡ true → (net_of s).old b ≡ eqb (get_or s 4 0) 1
   unfolding old_rule

@@ -12,7 +12,7 @@ use Rattle.lists.proofs.Tests.{fits_ascends, fits_in}
 use Rattle.model.specs.Net.{Sound}
 use Rattle.model.specs.Unfolding.{reads}
 use Rattle.words.specs.Words.{words, count_in}
-use Rattle.refusal.specs.declared.Judged.TheVariants.{Fine}
+use Rattle.std.specs.Prelude.{Ok}
 use Rattle.records.specs.Records.{part, conditions, pre_count, post_count, pre_part, post_part, marking_part}
 use Rattle.event_rules.proofs.Fine.{EventFine}
 use Rattle.table.specs.Walk.{judge_of, offset_of}
@@ -41,7 +41,7 @@ module _ (s : List ℕ) (at next : ℕ) (f : EventFine s at next) where
   pub post_length : length (words (post_part s at)) ≡ post_count s at
   post_length = words_length (post_part s at) (post_count s at) (part_length s (at + 8 + 2 * pre_count s at) (2 * post_count s at) (omega arith))
 
-tabled_read : (s : List ℕ) (n : ℕ) → Accepted s n → Tabled (net_if (Fine n) s)
+tabled_read : (s : List ℕ) (n : ℕ) → Accepted s n → Tabled (net_if (Ok n) s)
 unfolding reads count_in
 tabled_read s n a =
     record {
@@ -73,8 +73,8 @@ tabled_read s n a =
     start = T_of (fits (conditions s) (words (marking_part s (offset_of s n)))) a.marking.ascends
 
 -- An accepted table is a net within the limits.
-pub tabled : (s : List ℕ) (n : ℕ) → judge_of s ≡ Fine n → Tabled (net_of s)
-tabled s n j = rw (net_judged s (Fine n) j) (tabled_read s n (accepted s n j))
+pub tabled : (s : List ℕ) (n : ℕ) → judge_of s ≡ Ok n → Tabled (net_of s)
+tabled s n j = rw (net_judged s (Ok n) j) (tabled_read s n (accepted s n j))
 
-pub accepted_sound : (s : List ℕ) (n : ℕ) → judge_of s ≡ Fine n → Sound (net_of s)
+pub accepted_sound : (s : List ℕ) (n : ℕ) → judge_of s ≡ Ok n → Sound (net_of s)
 accepted_sound s n j = (tabled s n j).sound

@@ -6,7 +6,7 @@ use mathlib.Core.List.{List}
 use mathlib.Core.Bool.{Bool, true, false, cond}
 use lib.ListN.{length}
 use Rattle.words.specs.Words.{word_at}
-use Rattle.refusal.specs.declared.Judged.TheVariants.{Fine}
+use Rattle.std.specs.Prelude.{Ok}
 use Rattle.refusal.specs.Answer.{refused_at, and_then}
 use Rattle.refusal.proofs.Chain.{never_both, then_fine}
 use Rattle.records.specs.Records.{header_of, front, conditions}
@@ -59,15 +59,15 @@ pub record Walked (left : ℕ) (s : List ℕ) (at n : ℕ) : Type 0 where
   pub event : (j : ℕ) → j < count → EventFine s (offset_from j s at) (offset_from (suc j) s at)
   pub marking : MarkingFine s (offset_from count s at) (length s)
 
-walked_last : (left : ℕ) (s : List ℕ) (at n : ℕ) → left ≤ 256 → last_of left s at ≡ Fine n → Walked left s at n
+walked_last : (left : ℕ) (s : List ℕ) (at n : ℕ) → left ≤ 256 → last_of left s at ≡ Ok n → Walked left s at n
 unfolding offset_from
 walked_last left s at n h e =
-    let (next, t, f) = then_fine (marking_of s at) (λ _. Fine (256 - left)) n e in
+    let (next, t, f) = then_fine (marking_of s at) (λ _. Ok (256 - left)) n e in
     let q : 256 - left ≡ n = cc in
     let m = marking_fine s at next t in
     record { count = 0; fits = omega arith; total = omega arith; event = λ j p. absurd (omega arith); marking = rw m.ends at m }
 
-walked_event : (left : ℕ) (s : List ℕ) (at n : ℕ) (next : ℕ) → event_of s at ≡ Fine next → Walked left s next n → Walked (suc left) s at n
+walked_event : (left : ℕ) (s : List ℕ) (at n : ℕ) (next : ℕ) → event_of s at ≡ Ok next → Walked left s next n → Walked (suc left) s at n
 unfolding offset_from
 walked_event left s at n next t w =
     let f = event_fine s at next t in
@@ -79,18 +79,18 @@ walked_event left s at n next t w =
       marking = rw f.next_is at w.marking;
     }
 
-walked_if : (left : ℕ) (s : List ℕ) (at n : ℕ) (b : Bool) → suc left ≤ 256 → ((next : ℕ) → events_from left s next ≡ Fine n → Walked left s next n)
-    → cond b (and_then (event_of s at) (events_from left s)) (last_of (suc left) s at) ≡ Fine n → Walked (suc left) s at n
+walked_if : (left : ℕ) (s : List ℕ) (at n : ℕ) (b : Bool) → suc left ≤ 256 → ((next : ℕ) → events_from left s next ≡ Ok n → Walked left s next n)
+    → cond b (and_then (event_of s at) (events_from left s)) (last_of (suc left) s at) ≡ Ok n → Walked (suc left) s at n
 walked_if left s at n true h ih e =
     let (next, t, r) = then_fine (event_of s at) (events_from left s) n e in
     walked_event left s at n next t (ih next r)
 walked_if left s at n false h ih e = walked_last (suc left) s at n h e
 
-walked_full : (s : List ℕ) (at n : ℕ) (b : Bool) → cond b (refused_at 6 at) (last_of 0 s at) ≡ Fine n → Walked 0 s at n
+walked_full : (s : List ℕ) (at n : ℕ) (b : Bool) → cond b (refused_at 6 at) (last_of 0 s at) ≡ Ok n → Walked 0 s at n
 walked_full s at n true e = never_both (sym e)
 walked_full s at n false e = walked_last 0 s at n (omega arith) e
 
-pub walked : (left : ℕ) (s : List ℕ) (at n : ℕ) → left ≤ 256 → events_from left s at ≡ Fine n → Walked left s at n
+pub walked : (left : ℕ) (s : List ℕ) (at n : ℕ) → left ≤ 256 → events_from left s at ≡ Ok n → Walked left s at n
 unfolding events_from
 walked zero s at n h e = walked_full s at n (kind_is 2 (header_of s at)) e
 walked (suc left) s at n h e = walked_if left s at n (kind_is 2 (header_of s at)) h (λ next. walked left s next n (omega arith)) e
@@ -112,7 +112,7 @@ accepted_from s n start k w =
       marking = rw (k.next_is, total) at w.marking;
     }
 
-pub accepted : (s : List ℕ) (n : ℕ) → judge_of s ≡ Fine n → Accepted s n
+pub accepted : (s : List ℕ) (n : ℕ) → judge_of s ≡ Ok n → Accepted s n
 unfolding judge_of
 accepted s n j =
     let (at, h, i) = then_fine (rule_of s) (λ at. and_then (conditions_of s at) (events_from 256 s)) n j in

@@ -1,23 +1,22 @@
 -- The walk that judges a table, record by record, and where its records stand.
-use Rattle.std.specs.Prelude.{ℕ, zero, suc, ◌+◌, ◌-◌, List, Bool, false, cond, eqb}
+use Rattle.std.specs.Prelude.{Option, None, Some, ℕ, zero, suc, ◌+◌, ◌-◌, List, Bool, false, cond, eqb}
 use Rattle.words.specs.Words.{word_at}
-use Rattle.refusal.specs.declared.Judged.{Judged}
-use Rattle.refusal.specs.declared.Judged.TheVariants.{Fine}
+use Rattle.refusal.specs.Answer.{Judged}
+use Rattle.std.specs.Prelude.{Ok}
 use Rattle.refusal.specs.Answer.{refused_at, and_then}
 use Rattle.records.specs.declared.Header.{Header}
-use Rattle.records.specs.declared.Header.TheVariants.{Whole, Short}
 use Rattle.records.specs.Records.{header_of, front, conditions}
 use Rattle.rules.specs.Rules.{rule_of, conditions_of, marking_of}
 use Rattle.event_rules.specs.EventRules.{event_of}
 
 -- A header is whole and of a kind.
-abbrev pub kind_is : ℕ → Header → Bool
-kind_is k Short = false
-kind_is k (Whole kind len) = eqb kind k
+abbrev pub kind_is : ℕ → Option Header → Bool
+kind_is k None = false
+kind_is k (Some header) = eqb header.kind k
 
 -- The last record, where so many of 256 events are still allowed; fine: the number of events (01, Table records).
 abbrev pub last_of : ℕ → List ℕ → ℕ → Judged
-last_of left s at = and_then (marking_of s at) (λ _. Fine (256 - left))
+last_of left s at = and_then (marking_of s at) (λ _. Ok (256 - left))
 
 -- The records from an offset on, where so many of 256 events are still allowed: one event more is 6, and a record
 -- that is refused is the answer (01, Refusal numbers).

@@ -2,36 +2,34 @@
 #![tactic(auto)]
 
 ghost use Rattle.std.specs.Prelude.{◌≡◌};
-ghost use Rattle.refusal.specs.declared.Judged.TheVariants.{Fine};
+ghost use Rattle.std.specs.Prelude.{Ok};
 ghost use Rattle.refusal.specs.Answer.{and_then};
 ghost use Rattle.records.specs.Records.{header_of};
 ghost use Rattle.table.specs.Walk.{kind_is, judge_of, offset_of};
 ghost use Rattle.table.specs.Decoded.{net_of};
 
-use records::Header;
-use refusal::Judged;
+use refusal::Refusal;
 
 // Whether a whole Event record stands at an offset.
 pub fn is_event(table: &[u8], at: usize) -> bool
     ensures { result ≡ kind_is 2 (header_of table.now at) }
 {
-    let h = records::header_at(table, at);
-    let Header::Whole { kind, len: _ } = h else {
-        return false;
-    };
-    kind == 2
+    match records::header_at(table, at) {
+        Some(header) => header.kind == 2,
+        None => false,
+    }
 }
 
 // The table, judged; fine: the number of its events.
-pub fn judge(table: &[u8]) -> Judged
+pub fn judge(table: &[u8]) -> Result<usize, Refusal>
     ensures { result ≡ judge_of table.now }
 {
     let rule = rules::rule_record(table);
-    let Judged::Fine(front) = rule else {
+    let Ok(front) = rule else {
         return rule;
     };
     let first = rules::conditions_record(table, front);
-    let Judged::Fine(start) = first else {
+    let Ok(start) = first else {
         return first;
     };
     let mut at = start;
@@ -41,17 +39,17 @@ pub fn judge(table: &[u8]) -> Judged
             return refusal::refused(6, at);
         }
         let r = event_rules::event_record(table, at);
-        let Judged::Fine(next) = r else {
+        let Ok(next) = r else {
             return r;
         };
         at = next;
         left = left - 1;
     }
     let last = rules::marking_record(table, at);
-    let Judged::Fine(_) = last else {
+    let Ok(_) = last else {
         return last;
     };
-    Judged::Fine(256 - left)
+    Ok(256 - left)
 }
 
 // The offset of event e, counted along the lengths; past the last event, that of the Marking record.
@@ -68,19 +66,16 @@ pub fn offset(table: &[u8], e: u16) -> usize
 }
 
 // The number of the table's conditions.
-pub fn condition_count(table: &[u8]) -> Judged
-    ensures { result ≡ and_then (judge_of table.now) (λ _. Fine (net_of table.now).conditions) }
+pub fn condition_count(table: &[u8]) -> Result<usize, Refusal>
+    ensures { result ≡ and_then (judge_of table.now) (λ _. Ok (net_of table.now).conditions) }
 {
-    let r = judge(table);
-    let Judged::Fine(_) = r else {
-        return r;
-    };
-    Judged::Fine(records::conditions(table) as usize)
+    judge(table)?;
+    Ok(records::conditions(table) as usize)
 }
 
 // The number of the table's events.
-pub fn event_count(table: &[u8]) -> Judged
-    ensures { result ≡ and_then (judge_of table.now) (λ _. Fine (net_of table.now).events) }
+pub fn event_count(table: &[u8]) -> Result<usize, Refusal>
+    ensures { result ≡ and_then (judge_of table.now) (λ _. Ok (net_of table.now).events) }
 {
     judge(table)
 }

@@ -9,8 +9,8 @@ use lib.ListN.{length}
 use Rattle.lists.specs.Lists.{mem, ascending}
 use Rattle.model.specs.Net.{Net, Sound}
 use Rattle.words.specs.Words.{word_at, words}
-use Rattle.refusal.specs.declared.Judged.{Judged}
-use Rattle.refusal.specs.declared.Judged.TheVariants.{Fine, Refused}
+use Rattle.refusal.specs.Answer.{Judged}
+use Rattle.std.specs.Prelude.{Ok, Err}
 use Rattle.event_rules.proofs.Fine.{EventFine}
 use Rattle.table.specs.Walk.{judge_of, offset_of}
 use Rattle.table.specs.Decoded.{net_if, net_of}
@@ -21,12 +21,12 @@ use Rattle.table.proofs.Sound.{tabled}
 use Rattle.tally.specs.Having.{list_of, list_part}
 
 -- a table that has an event was accepted
-judged_if : (s : List ℕ) (j : Judged) (e : ℕ) → e < (net_if j s).events → j ≡ Fine (net_if j s).events
-judged_if s (Fine n) e h = refl
-judged_if s (Refused refusal) e h = absurd (omega arith)
+judged_if : (s : List ℕ) (j : Judged) (e : ℕ) → e < (net_if j s).events → j ≡ Ok (net_if j s).events
+judged_if s (Ok n) e h = refl
+judged_if s (Err refusal) e h = absurd (omega arith)
 
 module _ (s : List ℕ) (e : ℕ) (h : e < (net_of s).events) where
-  pub judged : judge_of s ≡ Fine (net_of s).events
+  pub judged : judge_of s ≡ Ok (net_of s).events
   unfolding net_of
   judged = judged_if s (judge_of s) e h
 
@@ -49,8 +49,8 @@ module _ (s : List ℕ) (e : ℕ) (h : e < (net_of s).events) where
   next_within = event_fine.within
 
   pub list_read : (post : Bool) → words (list_part post s (offset_of s e)) ≡ list_of (net_of s) post e
-  list_read true = sym (ap (λ (n : Net). n.postconditions e) (net_judged s (Fine (net_of s).events) judged))
-  list_read false = sym (ap (λ (n : Net). n.preconditions e) (net_judged s (Fine (net_of s).events) judged))
+  list_read true = sym (ap (λ (n : Net). n.postconditions e) (net_judged s (Ok (net_of s).events) judged))
+  list_read false = sym (ap (λ (n : Net). n.preconditions e) (net_judged s (Ok (net_of s).events) judged))
 
   pub list_ascends : (post : Bool) → T (ascending (list_of (net_of s) post e))
   list_ascends true = sound.post_ascends_lem e h

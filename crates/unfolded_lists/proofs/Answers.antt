@@ -12,8 +12,8 @@ use Rattle.lists.specs.Lists.{sum}
 use Rattle.lists.proofs.Stored.{stored_whole}
 use Rattle.model.specs.Unfolding.{basic}
 use Rattle.model.specs.Numbering.{size, event_count}
-use Rattle.refusal.specs.declared.Judged.{Judged}
-use Rattle.refusal.specs.declared.Judged.TheVariants.{Fine, Refused}
+use Rattle.refusal.specs.Answer.{Judged}
+use Rattle.std.specs.Prelude.{Ok, Err}
 use Rattle.refusal.specs.declared.Refusal.{Refusal}
 use Rattle.refusal.specs.Answer.{refused_at, fitting, written}
 use Rattle.refusal.proofs.Chain.{need_passes, need_refuses, fitting_room, fitting_short}
@@ -28,7 +28,7 @@ use Rattle.segments.proofs.Ranged.{ranged_length}
 
 module _ (s : List ℕ) (post : Bool) (j : ℕ) (out : List ℕ) where
   -- a refusal leaves the output
-  pub kept : {x : Refusal} → unfolded_list_of s post j (length out) ≡ Refused x → out ≡ unfolded_listed_of s post j out
+  pub kept : {x : Refusal} → unfolded_list_of s post j (length out) ≡ Err x → out ≡ unfolded_listed_of s post j out
   unfolding unfolded_listed_of
   kept e = sym (ap (λ (a : Judged). written a (list_of (basic (net_of s)) post j) out) e)
 
@@ -56,7 +56,7 @@ module _ (s : List ℕ) (post : Bool) (j : ℕ) (out : List ℕ) where
       pub listing_short : length out < k → refused_at 16 k ≡ unfolded_list_of s post j (length out)
       listing_short h = sym (is_fitting ∙ rw (← z) (fitting_short k (length out) h))
 
-      pub listing_fine : k ≤ length out → Fine k ≡ unfolded_list_of s post j (length out)
+      pub listing_fine : k ≤ length out → Ok k ≡ unfolded_list_of s post j (length out)
       listing_fine h = sym (is_fitting ∙ rw (← z) (fitting_room k (length out) h))
 
       pub listed_fine : k ≤ length out → sets out 0 (ranged starts sizes r) ≡ unfolded_listed_of s post j out

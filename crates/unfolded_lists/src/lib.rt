@@ -8,7 +8,7 @@ ghost use Rattle.segments.specs.Ranges.{ranged};
 ghost use Rattle.unfolded_lists.specs.Calls.{unfolded_list_of, unfolded_listed_of};
 ghost use Rattle.unfolded_lists.specs.Puts.{Small, Fits};
 
-use refusal::{Judged, UnfoldedEvent};
+use refusal::{Refusal, UnfoldedEvent};
 use unfolding::Found;
 
 // The numbers of one range, put into a lent output from an element on.
@@ -40,17 +40,14 @@ fn put_ranges<'a>(starts: &'a [u32], sizes: &'a [u32], ranges: usize, out: &mut 
 }
 
 // One list of an unfolded event, written into a lent output.
-fn write_list(table: &[u8], j: UnfoldedEvent, post: bool, out: &mut [u16]) -> Judged
+fn write_list(table: &[u8], j: UnfoldedEvent, post: bool, out: &mut [u16]) -> Result<usize, Refusal>
     ensures answer { result ≡ unfolded_list_of table.now post j.0 (length out.old) }
     ensures after { out.new ≡ unfolded_listed_of table.now post j.0 out.old }
 {
     let mut markers = [0u32; 256];
     let mut users = [0u32; 256];
     let mut bases = [0u32; 257];
-    let r = layout::lay_out(table, &mut markers, &mut users, &mut bases);
-    let Judged::Fine(events) = r else {
-        return r;
-    };
+    let events = layout::lay_out(table, &mut markers, &mut users, &mut bases)?;
     let wanted = j.0 as u32;
     let f = unfolding::owner(table, events, &markers, wanted);
     let Found::At(e, at, rest, weight) = f else {
@@ -74,11 +71,11 @@ fn write_list(table: &[u8], j: UnfoldedEvent, post: bool, out: &mut [u16]) -> Ju
         return refusal::refused(16, needed);
     }
     put_ranges(&starts, &sizes, k, out);
-    Judged::Fine(needed)
+    Ok(needed)
 }
 
 // The preconditions of an unfolded event, ascending, in a lent output.
-pub fn unfolded_pre(table: &[u8], j: UnfoldedEvent, out: &mut [u16]) -> Judged
+pub fn unfolded_pre(table: &[u8], j: UnfoldedEvent, out: &mut [u16]) -> Result<usize, Refusal>
     ensures answer { result ≡ unfolded_list_of table.now false j.0 (length out.old) }
     ensures after { out.new ≡ unfolded_listed_of table.now false j.0 out.old }
 {
@@ -86,7 +83,7 @@ pub fn unfolded_pre(table: &[u8], j: UnfoldedEvent, out: &mut [u16]) -> Judged
 }
 
 // The postconditions of an unfolded event, ascending, in a lent output.
-pub fn unfolded_post(table: &[u8], j: UnfoldedEvent, out: &mut [u16]) -> Judged
+pub fn unfolded_post(table: &[u8], j: UnfoldedEvent, out: &mut [u16]) -> Result<usize, Refusal>
     ensures answer { result ≡ unfolded_list_of table.now true j.0 (length out.old) }
     ensures after { out.new ≡ unfolded_listed_of table.now true j.0 out.old }
 {

@@ -9,7 +9,7 @@ use Rattle.model.specs.Net.{Net}
 use Rattle.model.specs.Unfolding.{basic}
 use Rattle.model.specs.Numbering.{size, condition_count, event_count}
 use Rattle.model.proofs.Counts.{count_conditions}
-use Rattle.refusal.specs.declared.Judged.TheVariants.{Fine}
+use Rattle.std.specs.Prelude.{Ok}
 use Rattle.records.specs.Records.{conditions}
 use Rattle.table.specs.Walk.{judge_of}
 use Rattle.table.specs.Decoded.{net_of}
@@ -17,7 +17,7 @@ use Rattle.table.proofs.Decoded.{conditions_are_all}
 use Rattle.layout.specs.Laid.{Laid}
 use Rattle.unfolding.proofs.Numbered.{events_basic}
 
-pub conditions_count : (s ms us bases : List ℕ) (k : ℕ) → Laid s ms us bases → judge_of s ≡ Fine k → get_or bases (conditions s) 0 ≡ (basic (net_of s)).conditions
+pub conditions_count : (s ms us bases : List ℕ) (k : ℕ) → Laid s ms us bases → judge_of s ≡ Ok k → get_or bases (conditions s) 0 ≡ (basic (net_of s)).conditions
 unfolding basic condition_count
 conditions_count s ms us bases k l j = rw (conditions_are_all s k j) (l.sums.at (net_of s).conditions (omega arith) ∙ sym (count_conditions (net_of s)))
 

@@ -3,7 +3,7 @@
 
 ghost use Rattle.std.specs.Prelude.{◌≡◌, ◌+◌, ◌≤◌, ◌<◌, length, get_or};
 ghost use Rattle.lists.specs.Lists.{index, sum};
-ghost use Rattle.refusal.specs.declared.Judged.TheVariants.{Fine};
+ghost use Rattle.std.specs.Prelude.{Ok};
 ghost use Rattle.model.specs.Runs.{at_start};
 ghost use Rattle.model.specs.Unfolding.{same_marker, markers, basic};
 ghost use Rattle.model.specs.Numbering.{size};
@@ -12,7 +12,7 @@ ghost use Rattle.layout.specs.Unfolds.{unfolding_of};
 ghost use Rattle.unfolding.specs.Markers.{shown, meant};
 ghost use Rattle.unfolding.specs.Numbers.{Within, Belongs, code, told};
 
-use refusal::{Judged, Marker, TableEvent};
+use refusal::{Marker, Refusal, TableEvent};
 
 // The event that a number belongs to, its offset, what is left of the number, and its number of colours.
 #[derive(Clone, Copy)]
@@ -105,30 +105,24 @@ pub fn colours_before<'a>(table: &'a [u8], events: usize, markers: &'a [u32], up
 }
 
 // How many unfolded conditions a table has.
-pub fn condition_count(table: &[u8]) -> Judged
-    ensures { result ≡ unfolding_of table.now (Fine (basic (net_of table.now)).conditions) }
+pub fn condition_count(table: &[u8]) -> Result<usize, Refusal>
+    ensures { result ≡ unfolding_of table.now (Ok (basic (net_of table.now)).conditions) }
 {
     let mut markers = [0u32; 256];
     let mut users = [0u32; 256];
     let mut bases = [0u32; 257];
-    let r = layout::lay_out(table, &mut markers, &mut users, &mut bases);
-    let Judged::Fine(_) = r else {
-        return r;
-    };
+    layout::lay_out(table, &mut markers, &mut users, &mut bases)?;
     let conditions = records::conditions(table) as usize;
-    Judged::Fine(tally::number(&bases, conditions) as usize)
+    Ok(tally::number(&bases, conditions) as usize)
 }
 
 // How many unfolded events a table has.
-pub fn event_count(table: &[u8]) -> Judged
-    ensures { result ≡ unfolding_of table.now (Fine (basic (net_of table.now)).events) }
+pub fn event_count(table: &[u8]) -> Result<usize, Refusal>
+    ensures { result ≡ unfolding_of table.now (Ok (basic (net_of table.now)).events) }
 {
     let mut markers = [0u32; 256];
     let mut users = [0u32; 256];
     let mut bases = [0u32; 257];
-    let r = layout::lay_out(table, &mut markers, &mut users, &mut bases);
-    let Judged::Fine(events) = r else {
-        return r;
-    };
-    Judged::Fine(colours_before(table, events, &markers, events))
+    let events = layout::lay_out(table, &mut markers, &mut users, &mut bases)?;
+    Ok(colours_before(table, events, &markers, events))
 }

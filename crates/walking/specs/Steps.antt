@@ -6,7 +6,7 @@ use Rattle.model.specs.Net.{Marking, Stop, first_stop}
 use Rattle.model.specs.Unfolding.{basic}
 use Rattle.model.specs.Numbering.{width}
 use Rattle.model.specs.Across.{most_unfolded}
-use Rattle.refusal.specs.declared.Judged.TheVariants.{Fine}
+use Rattle.std.specs.Prelude.{Ok}
 use Rattle.table.specs.Walk.{judge_of}
 use Rattle.table.specs.Decoded.{net_of}
 use Rattle.layout.specs.Laid.{Sums}
@@ -32,7 +32,7 @@ stops m pre post old = first_stop true (failing (passes_of false m pre old) pre)
 -- What is known of an accepted table whose unfolded conditions are walked: the sums before its conditions, and that there are not too many
 -- (01, Unfolding).
 pub record Summed (s bases : List ℕ) : Type 0 where
-  pub judged : judge_of s ≡ Fine (net_of s).events
+  pub judged : judge_of s ≡ Ok (net_of s).events
   pub sums : Sums (width (net_of s)) (net_of s).conditions bases
   pub few : (basic (net_of s)).conditions ≤ most_unfolded
 

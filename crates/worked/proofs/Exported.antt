@@ -5,7 +5,7 @@ use Rattle.lists.specs.Lists.{fits}
 use Rattle.model.specs.Net.{begin}
 use Rattle.model.specs.Unfolding.{basic}
 use Rattle.model.specs.Across.{unfolding_refused}
-use Rattle.refusal.specs.declared.Judged.TheVariants.{Fine}
+use Rattle.std.specs.Prelude.{Ok}
 use Rattle.refusal.specs.Answer.{need}
 use Rattle.words.specs.Words.{words, bits}
 use Rattle.records.specs.Records.{header_of, old_rule, front}
@@ -22,7 +22,7 @@ use Rattle.elements.specs.Whole.{export_of}
 use Rattle.worked.specs.Tables.{table_unused}
 
 -- (02, No. 1)
-pub unused_exported : (element_count_of table_unused ≡ Fine 2) × (export_of table_unused ≡ opens_text ++ closes_text)
+pub unused_exported : (element_count_of table_unused ≡ Ok 2) × (export_of table_unused ≡ opens_text ++ closes_text)
 unfolding
     judge_of rule_of front conditions_of events_from marking_of header_of fits words bits net_of old_rule offset_from need basic begin unfolding_refused
     unfolding_of doubled exported numbered elements text_of elements_of element_count_of export_of

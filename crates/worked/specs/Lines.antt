@@ -2,8 +2,9 @@
 -- has just the room for it.
 use Rattle.std.specs.Prelude.{◌≡◌, true, false, List, ℕ, length, replicate}
 use Rattle.model.specs.Unfolding.{basic}
-use Rattle.refusal.specs.declared.Judged.TheVariants.{Fine}
-use Rattle.refusal.specs.declared.By.TheVariants.{Table}
+use Rattle.std.specs.Prelude.{Ok}
+use Rattle.std.specs.Prelude.{Some}
+use Rattle.refusal.specs.declared.Condition.TheVariants.{Table}
 use Rattle.refusal.specs.Answer.{refused_at, refused_by}
 use Rattle.table.specs.Decoded.{net_of}
 use Rattle.game.specs.Calls.{concession_of, fire_of, fired_of}
@@ -23,13 +24,13 @@ lent_for answer = replicate (length answer) 9
 
 -- The table has so many unfolded conditions and unfolded events (01, Nets to test with).
 abbrev pub Counts : List ℕ → ℕ → ℕ → Type 0
-Counts s c e = (unfolding_of s (Fine (basic (net_of s)).conditions) ≡ Fine c) × (unfolding_of s (Fine (basic (net_of s)).events) ≡ Fine e)
+Counts s c e = (unfolding_of s (Ok (basic (net_of s)).conditions) ≡ Ok c) × (unfolding_of s (Ok (basic (net_of s)).events) ≡ Ok e)
 
 -- An unfolded event has these preconditions and postconditions (01, Nets to test with).
 abbrev pub Lists : List ℕ → ℕ → List ℕ → List ℕ → Type 0
 Lists s j a z =
-    (unfolded_list_of s false j (length a) ≡ Fine (length a)) × (unfolded_listed_of s false j (lent_for a) ≡ a)
-    × (unfolded_list_of s true j (length z) ≡ Fine (length z)) × (unfolded_listed_of s true j (lent_for z) ≡ z)
+    (unfolded_list_of s false j (length a) ≡ Ok (length a)) × (unfolded_listed_of s false j (lent_for a) ≡ a)
+    × (unfolded_list_of s true j (length z) ≡ Ok (length z)) × (unfolded_listed_of s true j (lent_for z) ≡ z)
 
 -- An unfolded event's number has this event behind it (01, Nets to test with).
 abbrev pub Behind : List ℕ → ℕ → ℕ → Type 0
@@ -37,31 +38,31 @@ Behind s j e = (origin_of s j).event.0 ≡ e
 
 -- An event without markers has this unfolded number (01, Nets to test with).
 abbrev pub Numbered : List ℕ → ℕ → ℕ → Type 0
-Numbered s e j = number_of s e no_colour ≡ Fine j
+Numbered s e j = number_of s e no_colour ≡ Ok j
 
 -- An event has concession at a lent marking (01, Nets to test with).
 abbrev pub Concedes : List ℕ → List ℕ → ℕ → Type 0
-Concedes s m e = concession_of s m e ≡ Fine 0
+Concedes s m e = concession_of s m e ≡ Ok 0
 
 -- An event is stopped at a lent marking with this number by this condition, and nothing is fired (01, Nets to test with; 02, No. 2).
 abbrev pub Stops : List ℕ → List ℕ → ℕ → ℕ → ℕ → Type 0
 Stops s m e x b =
-    (concession_of s m e ≡ refused_by x b (Table (record { 0 = b }))) × (fire_of s m e ≡ refused_by x b (Table (record { 0 = b })))
+    (concession_of s m e ≡ refused_by x b (Some ◄Table (record { 0 = b }))) × (fire_of s m e ≡ refused_by x b (Some ◄Table (record { 0 = b })))
     × (fired_of s m e ≡ m)
 
 -- An event is fired at a lent marking, which is this one afterwards (01, Nets to test with).
 abbrev pub Fires : List ℕ → List ℕ → ℕ → List ℕ → Type 0
-Fires s m e after = (fire_of s m e ≡ Fine (length after)) × (fired_of s m e ≡ after)
+Fires s m e after = (fire_of s m e ≡ Ok (length after)) × (fired_of s m e ≡ after)
 
 -- A run is replayed to this marking (01, Nets to test with).
 abbrev pub Plays : List ℕ → List ℕ → List ℕ → Type 0
-Plays s r end = (replay_of s r (length end) ≡ Fine (length end)) × (end_of s r (lent_for end) ≡ end)
+Plays s r end = (replay_of s r (length end) ≡ Ok (length end)) × (end_of s r (lent_for end) ≡ end)
 
 -- A run is lifted to this unfolded run, which ends in this unfolded marking (01, Nets to test with).
 abbrev pub Lifts : List ℕ → List ℕ → List ℕ → List ℕ → Type 0
 Lifts s r w end =
-    (lift_of s r (length w) ≡ Fine (length w)) × (lifted_of s r (lent_for w) ≡ w)
-    × (lift_end_of s r (length end) ≡ Fine (length end)) × (lift_ended_of s r (lent_for end) ≡ end)
+    (lift_of s r (length w) ≡ Ok (length w)) × (lifted_of s r (lent_for w) ≡ w)
+    × (lift_end_of s r (length end) ≡ Ok (length end)) × (lift_ended_of s r (lent_for end) ≡ end)
 
 -- A run is not lifted, with this number and place, and nothing is written (01, Nets to test with).
 abbrev pub NotLifted : List ℕ → List ℕ → ℕ → ℕ → Type 0
@@ -69,7 +70,7 @@ NotLifted s r x k = (lift_of s r (length r) ≡ refused_at x k) × (lifted_of s 
 
 -- Steps k and k + 1 of a run are exchanged, which leaves this run (01, Nets to test with).
 abbrev pub Exchanges : List ℕ → List ℕ → ℕ → List ℕ → Type 0
-Exchanges s r k q = (exchange_of s r k ≡ Fine 2) × (exchanged_of s r k ≡ q)
+Exchanges s r k q = (exchange_of s r k ≡ Ok 2) × (exchanged_of s r k ≡ q)
 
 -- They are not exchanged, with this number and place, and the run is as it was (01, Nets to test with).
 abbrev pub NotExchanged : List ℕ → List ℕ → ℕ → ℕ → ℕ → Type 0

@@ -5,7 +5,7 @@ use mathlib.Core.List.{List, ◌++◌}
 use borrow.Author.Tests.{le-leb, lt-leb, leb-true}
 use lib.ListN.{length, drop}
 use Rattle.model.specs.Across.{most_steps}
-use Rattle.refusal.specs.declared.Judged.TheVariants.{Fine}
+use Rattle.std.specs.Prelude.{Ok}
 use Rattle.refusal.specs.Answer.{refused_at, need, fitting}
 use Rattle.refusal.proofs.Chain.{need_fine}
 use Rattle.writing.specs.Writing.{write_answer, record_of, record_into}
@@ -31,7 +31,7 @@ module _ (kind : ℕ) (run bytes : List ℕ) where
 
   pub write_fits :
       length run ≤ most_steps → 4 + 2 * length run ≤ length bytes
-      → (write_answer run (length bytes) ≡ Fine (4 + 2 * length run))
+      → (write_answer run (length bytes) ≡ Ok (4 + 2 * length run))
       × (record_into kind run bytes ≡ record_of kind run ++ drop (length (record_of kind run)) bytes)
   unfolding write_answer record_into fitting need
   write_fits few h =
@@ -42,7 +42,7 @@ module _ (kind : ℕ) (run bytes : List ℕ) where
 -- A fine answer, taken back to what it was given for.
 pub write_fine :
     (run : List ℕ) (room n : ℕ)
-    → write_answer run room ≡ Fine n → (length run ≤ most_steps) × (n ≡ 4 + 2 * length run) × (n ≤ room)
+    → write_answer run room ≡ Ok n → (length run ≤ most_steps) × (n ≡ 4 + 2 * length run) × (n ≤ room)
 unfolding write_answer fitting
 write_fine run room n e =
     let (few, e0) = need_fine _ 3 0 n _ e in

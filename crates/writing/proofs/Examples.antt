@@ -2,7 +2,7 @@
 use mathlib.Core.Path.{◌≡◌, refl}
 use mathlib.Core.List.{[], ◌∷◌, ◌++◌}
 use lib.ListN.{replicate}
-use Rattle.refusal.specs.declared.Judged.TheVariants.{Fine}
+use Rattle.std.specs.Prelude.{Ok}
 use Rattle.refusal.specs.Answer.{refused_at, need, fitting}
 use Rattle.words.specs.Words.{bytes_of}
 use Rattle.runs.specs.Runs.{run_kind, lifted_kind}
@@ -16,7 +16,7 @@ written_out = refl
 
 -- The longest run and one step more.
 pub longest :
-    (write_answer (replicate 4096 0) 8196 ≡ Fine 8196)
+    (write_answer (replicate 4096 0) 8196 ≡ Ok 8196)
     × (write_answer (replicate 4096 0) 8195 ≡ refused_at 16 8196)
     × (write_answer (replicate 4097 0) 8198 ≡ refused_at 3 0)
 unfolding write_answer need fitting

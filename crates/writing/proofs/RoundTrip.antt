@@ -5,7 +5,7 @@ use mathlib.Core.Path.{◌≡◌, sym, ◌∙◌}
 use mathlib.Core.List.{List, ◌++◌}
 use lib.ListN.{length, get_or, take, drop}
 use lib.Seq.{take_at}
-use Rattle.refusal.specs.declared.Judged.TheVariants.{Fine}
+use Rattle.std.specs.Prelude.{Ok}
 use Rattle.runs.specs.Runs.{read_answer, run_of, run_into}
 use Rattle.runs.proofs.Judging.{record_is_fine, length_run}
 use Rattle.runs.proofs.Answers.{read_fits, read_fine}
@@ -20,9 +20,9 @@ taken_again answer out n e = take_at answer (drop (length answer) out) n (sym e)
 -- A run that was written as a record is read from it again, wherever it fits.
 pub reading_what_was_written :
     (kind : ℕ) (run bytes back : List ℕ) (n : ℕ)
-    → write_answer run (length bytes) ≡ Fine n
+    → write_answer run (length bytes) ≡ Ok n
     → length run ≤ length back
-    → (read_answer kind (take n (record_into kind run bytes)) (length back) ≡ Fine (length run))
+    → (read_answer kind (take n (record_into kind run bytes)) (length back) ≡ Ok (length run))
     × (run_into kind (take n (record_into kind run bytes)) back ≡ run ++ drop (length run) back)
 reading_what_was_written kind run bytes back n e fits =
     let (few, needed, room) = write_fine run (length bytes) n e in
@@ -37,9 +37,9 @@ reading_what_was_written kind run bytes back n e fits =
 pub writing_what_was_read :
     (kind : ℕ) (bytes run back : List ℕ) (n : ℕ)
     → ((i : ℕ) → get_or bytes i 0 < 256)
-    → read_answer kind bytes (length run) ≡ Fine n
+    → read_answer kind bytes (length run) ≡ Ok n
     → length bytes ≤ length back
-    → (write_answer (take n (run_into kind bytes run)) (length back) ≡ Fine (length bytes))
+    → (write_answer (take n (run_into kind bytes run)) (length back) ≡ Ok (length bytes))
     × (record_into kind (take n (run_into kind bytes run)) back ≡ bytes ++ drop (length bytes) back)
 writing_what_was_read kind bytes run back n byte e fits =
     let (is, room) = read_fine kind bytes (length run) n e in

@@ -1,7 +1,7 @@
 -- What writing a Run or a Lifted record answers, and what it leaves in the lent bytes.
 use Rattle.std.specs.Prelude.{ℕ, ◌+◌, ◌*◌, List, ◌∷◌, leb, length}
 use Rattle.model.specs.Across.{most_steps}
-use Rattle.refusal.specs.declared.Judged.{Judged}
+use Rattle.refusal.specs.Answer.{Judged}
 use Rattle.refusal.specs.Answer.{need, fitting, written}
 use Rattle.words.specs.Words.{bytes_of}
 

@@ -7,7 +7,7 @@ ghost use Rattle.words.specs.Words.{bytes_of};
 ghost use Rattle.runs.specs.Runs.{run_kind, lifted_kind};
 ghost use Rattle.writing.specs.Writing.{write_answer, record_into};
 
-use refusal::{Judged, refused};
+use refusal::{refused, Refusal};
 use runs::{LIFTED, RUN};
 
 // A number stored as its two bytes.
@@ -32,7 +32,7 @@ fn put_steps(run: &[u16], bytes: &mut [u8])
 }
 
 // A record of the kind that holds a run of at most 4,096 steps (3), written into lent bytes that must have room for it (16).
-fn write_record(run: &[u16], kind: u16, bytes: &mut [u8]) -> Judged
+fn write_record(run: &[u16], kind: u16, bytes: &mut [u8]) -> Result<usize, Refusal>
     ensures answer { result ≡ write_answer run.now (length bytes.old) }
     ensures lent { bytes.new ≡ record_into kind run.now bytes.old }
 {
@@ -47,11 +47,11 @@ fn write_record(run: &[u16], kind: u16, bytes: &mut [u8]) -> Judged
     put_word(bytes, 0, (2 * steps) as u16);
     put_word(bytes, 2, kind);
     put_steps(run, bytes);
-    Judged::Fine(needed)
+    Ok(needed)
 }
 
 // A run written as a Run record: the number of its bytes, which stand from the first on.
-pub fn write_run(run: &[u16], bytes: &mut [u8]) -> Judged
+pub fn write_run(run: &[u16], bytes: &mut [u8]) -> Result<usize, Refusal>
     ensures answer { result ≡ write_answer run.now (length bytes.old) }
     ensures lent { bytes.new ≡ record_into run_kind run.now bytes.old }
 {
@@ -59,7 +59,7 @@ pub fn write_run(run: &[u16], bytes: &mut [u8]) -> Judged
 }
 
 // A lifted run written as a Lifted record: the number of its bytes, which stand from the first on.
-pub fn write_lifted(lifted: &[u16], bytes: &mut [u8]) -> Judged
+pub fn write_lifted(lifted: &[u16], bytes: &mut [u8]) -> Result<usize, Refusal>
     ensures answer { result ≡ write_answer lifted.now (length bytes.old) }
     ensures lent { bytes.new ≡ record_into lifted_kind lifted.now bytes.old }
 {

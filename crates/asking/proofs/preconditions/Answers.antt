@@ -1,23 +1,25 @@
 -- `asking::preconditions` meets its contract.
-use mathlib.Core.Path.{sym, ap, ◌∙◌}
+use Rattle.std.proofs.Common.{rules}
+use mathlib.Core.Path.{◌≡◌, sym, ap, ◌∙◌}
 use lib.ListN.{length}
 use Rattle.asking.specs.Calls.{preconditions_of, preconditions_into}
 use Rattle.asking.proofs.Listed.{listed_refused, listed_fine, pre_read}
 use Rattle.asking.proofs.preconditions.Goals as goal
 
-pub returns-in_default : goal.returns-in_default
+pub returns-in_err-at : goal.returns-in_err-at
 unfolding preconditions_of preconditions_into
-returns-in_default c =
-    let whole = listed_refused _ _ _ _ _ _ c.asked-r.ensures c.in_default.is in
+returns-in_err-at c =
+    let same : c.from_residual.result ≡ c.asked.result = search rules in
+    let whole = listed_refused _ _ _ _ _ _ c.asked.ensures c.in_err-at.was in
     record {
-      answer = whole.0;
+      answer = same ∙ whole.0;
       after = whole.1;
     }
 
 pub returns : goal.returns
 unfolding preconditions_of preconditions_into
 returns c =
-    let found = sym c.asked-r.ensures ∙ c.in-Fine.is in
+    let found = sym c.asked.ensures ∙ c.in_ok-at.was in
     let read = pre_read _ _ _ found _ c.pre_at.ensures.reads in
     let whole = listed_fine _ _ _ _ _ found _ _ _ _ read (ap length read) c.write_list.ensures.answer c.write_list.ensures.after in
     record {

@@ -12,11 +12,11 @@ returns-in_default c =
 
 pub element_in-requires : goal.element_in-requires
 element_in-requires c =
-    c.open-opened.ensures.ready _ c.in-Fine.is
+    c.open-opened.ensures.ready _ c.in-Ok.is
 
 pub returns : goal.returns
 returns c =
-    let t = element_told c.args.table.now c.args.i c.args.out.now (c.open-opened.ensures.ready _ c.in-Fine.is).numbered.table.unfolds c.element_in.result c.element_in.ensures.answer in
+    let t = element_told c.args.table.now c.args.i c.args.out.now (c.open-opened.ensures.ready _ c.in-Ok.is).numbered.table.unfolds c.element_in.result c.element_in.ensures.answer in
     record {
       answer = t;
       after = element_left c.args.table.now c.args.i c.args.out.now c.element_in.result t _ c.element_in.ensures.after;

@@ -10,7 +10,7 @@ returns-in_default c =
 
 pub colours_before-transitions-requires : goal.colours_before-transitions-requires
 colours_before-transitions-requires c =
-    let u = laid_unfolds _ _ _ _ c.lay_out-answer.ensures c.in-Fine.events c.in-Fine.is in
+    let u = laid_unfolds _ _ _ _ c.lay_out-answer.ensures c.in-Ok.events c.in-Ok.is in
     record {
       within = within_laid _ _ _ _ _ u.laid u.all;
       upto_le_events = omega arith;
@@ -18,4 +18,4 @@ colours_before-transitions-requires c =
 
 pub returns : goal.returns
 returns c =
-    opened_fine _ _ _ _ c.args.start.now _ c.lay_out-answer.ensures c.in-Fine.events c.in-Fine.is c.requires.3 c.condition_count-conditions.result c.colours_before-transitions.result c.condition_count-conditions.ensures c.colours_before-transitions.ensures c.unfolded_start.ensures.after
+    opened_fine _ _ _ _ c.args.start.now _ c.lay_out-answer.ensures c.in-Ok.events c.in-Ok.is c.requires.3 c.condition_count-conditions.result c.colours_before-transitions.result c.condition_count-conditions.ensures c.colours_before-transitions.ensures c.unfolded_start.ensures.after

@@ -1,6 +1,7 @@
 -- `exchange::exchange` meets its contract.
+use Rattle.std.proofs.Common.{rules}
 use native.Mathlib.Omega.{arith}
-use mathlib.Core.Path.{◌∙◌, sym}
+use mathlib.Core.Path.{◌≡◌, ◌∙◌, sym}
 use Prim.Native.Nat.{suc, ◌<◌}
 use lib.ListN.{length}
 use borrow.Author.Tests.{ltb-true}
@@ -11,33 +12,34 @@ use Rattle.played.proofs.Begun.{begun_plays}
 use Rattle.exchange.proofs.Exchanging.{kept_run, stopped_run, whole_run, no_step_lem, not_apart_lem, exchanges, put_back, part_room}
 use Rattle.exchange.proofs.exchange.Goals as goal
 
-pub returns-in_default : goal.returns-in_default
+pub returns-in_err-n : goal.returns-in_err-n
 unfolding exchange_of
-returns-in_default c =
-    let whole = kept_run _ _ _ _ _ c.in_default.is (passed_up _ c.judge-judged.ensures c.in_default.is) in
+returns-in_err-n c =
+    let same : c.from_residual.result ≡ c.judge.result = search rules in
+    let whole = kept_run _ _ _ _ _ c.in_err-n.was (passed_up _ c.judge.ensures c.in_err-n.was) in
     record {
-      answer = whole.0;
+      answer = same ∙ whole.0;
       after = whole.1;
     }
 
 pub fill-requires : goal.fill-requires
 fill-requires c =
-    let j = sym c.judge-judged.ensures ∙ c.in-Fine.is in
+    let j = sym c.judge.ensures ∙ c.in_ok-n.was in
     let few = (accepted _ _ j).few in
     (j, omega arith)
 
 pub start_held-start-requires : goal.start_held-start-requires
 start_held-start-requires c =
-    sym c.judge-judged.ensures ∙ c.in-Fine.is
+    sym c.judge.ensures ∙ c.in_ok-n.was
 
 pub play-played-requires : goal.play-played-requires
 play-played-requires c =
-    let j = sym c.judge-judged.ensures ∙ c.in-Fine.is in
+    let j = sym c.judge.ensures ∙ c.in_ok-n.was in
     (j, c.fill.ensures)
 
 pub returns-in_default-answer : goal.returns-in_default-answer
 returns-in_default-answer c =
-    let j = sym c.judge-judged.ensures ∙ c.in-Fine.is in
+    let j = sym c.judge.ensures ∙ c.in_ok-n.was in
     let whole = stopped_run _ _ _ _ j _ _ (begun_plays _ _ _ c.start_held-start.ensures _ _ _ c.play-played.ensures) _ c.in_default-answer.is in
     record {
       answer = whole.0;
@@ -46,8 +48,8 @@ returns-in_default-answer c =
 
 pub apart_steps-requires : goal.apart_steps-requires
 apart_steps-requires c =
-    let j = sym c.judge-judged.ensures ∙ c.in-Fine.is in
-    let whole = whole_run _ _ c.args.k _ j _ _ (begun_plays _ _ _ c.start_held-start.ensures _ _ _ c.play-played.ensures) _ c.in-Fine-answer.is in
+    let j = sym c.judge.ensures ∙ c.in_ok-n.was in
+    let whole = whole_run _ _ c.args.k _ j _ _ (begun_plays _ _ _ c.start_held-start.ensures _ _ _ c.play-played.ensures) _ c.in-Ok-answer.is in
     record { judged = j; indexed = c.fill.ensures; short = whole.1; plays = whole.0; next = ltb-true _ _ (sym c.has_next.ensures ∙ c.if-has_next.true) }
 
 pub offset_bounds-run-k : goal.offset_bounds-run-k
@@ -72,8 +74,8 @@ swap_first-requires c =
 
 pub returns-then-apart_steps : goal.returns-then-apart_steps
 returns-then-apart_steps c =
-    let j = sym c.judge-judged.ensures ∙ c.in-Fine.is in
-    let e = exchanges _ _ c.args.k _ j _ _ (begun_plays _ _ _ c.start_held-start.ensures _ _ _ c.play-played.ensures) _ c.in-Fine-answer.is (sym c.has_next.ensures ∙ c.if-has_next.true) (sym c.apart_steps.ensures ∙ c.if-apart_steps.true) in
+    let j = sym c.judge.ensures ∙ c.in_ok-n.was in
+    let e = exchanges _ _ c.args.k _ j _ _ (begun_plays _ _ _ c.start_held-start.ensures _ _ _ c.play-played.ensures) _ c.in-Ok-answer.is (sym c.has_next.ensures ∙ c.if-has_next.true) (sym c.apart_steps.ensures ∙ c.if-apart_steps.true) in
     record {
       answer = e.0;
       after = put_back c.args.k c.args.run.now _ c.swap_first.ensures ∙ e.1;
@@ -81,8 +83,8 @@ returns-then-apart_steps c =
 
 pub returns-then-has_next : goal.returns-then-has_next
 returns-then-has_next c =
-    let j = sym c.judge-judged.ensures ∙ c.in-Fine.is in
-    let whole = kept_run _ _ c.args.k _ _ c.refused.ensures (c.refused.ensures ∙ not_apart_lem _ _ c.args.k _ j _ _ (begun_plays _ _ _ c.start_held-start.ensures _ _ _ c.play-played.ensures) _ c.in-Fine-answer.is (sym c.has_next.ensures ∙ c.if-has_next.true) (sym c.apart_steps.ensures ∙ c.if-apart_steps.false)) in
+    let j = sym c.judge.ensures ∙ c.in_ok-n.was in
+    let whole = kept_run _ _ c.args.k _ _ c.refused.ensures (c.refused.ensures ∙ not_apart_lem _ _ c.args.k _ j _ _ (begun_plays _ _ _ c.start_held-start.ensures _ _ _ c.play-played.ensures) _ c.in-Ok-answer.is (sym c.has_next.ensures ∙ c.if-has_next.true) (sym c.apart_steps.ensures ∙ c.if-apart_steps.false)) in
     record {
       answer = whole.0;
       after = whole.1;
@@ -90,8 +92,8 @@ returns-then-has_next c =
 
 pub returns : goal.returns
 returns c =
-    let j = sym c.judge-judged.ensures ∙ c.in-Fine.is in
-    let whole = kept_run _ _ c.args.k _ _ c.refused-2.ensures (c.refused-2.ensures ∙ no_step_lem _ _ c.args.k _ j _ _ (begun_plays _ _ _ c.start_held-start.ensures _ _ _ c.play-played.ensures) _ c.in-Fine-answer.is (sym c.has_next.ensures ∙ c.if-has_next.false)) in
+    let j = sym c.judge.ensures ∙ c.in_ok-n.was in
+    let whole = kept_run _ _ c.args.k _ _ c.refused-2.ensures (c.refused-2.ensures ∙ no_step_lem _ _ c.args.k _ j _ _ (begun_plays _ _ _ c.start_held-start.ensures _ _ _ c.play-played.ensures) _ c.in-Ok-answer.is (sym c.has_next.ensures ∙ c.if-has_next.false)) in
     record {
       answer = whole.0;
       after = whole.1;

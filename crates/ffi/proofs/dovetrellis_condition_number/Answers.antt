@@ -1,6 +1,6 @@
 -- The number of an unfolded condition stands in two bytes.
 use Rattle.std.proofs.Common.{◌<◌, sym, subst}
-use Rattle.refusal.specs.declared.Judged.{Judged}
+use Rattle.refusal.specs.Answer.{Judged}
 use Rattle.refusal.specs.Answer.{value_of}
 use Rattle.outward.proofs.Small.{condition_small}
 use Rattle.ffi.proofs.dovetrellis_condition_number.Goals as goal

@@ -1,6 +1,6 @@
 -- `layout::events_judged` meets its contract.
 use mathlib.Core.Option.{Option}
-use Rattle.refusal.specs.declared.Judged.TheVariants.{Fine}
+use Rattle.std.specs.Prelude.{Ok}
 use Rattle.colours.specs.Colours.{capped}
 use Rattle.layout.specs.Counts.{idle_or, capped_count, events_of}
 use Rattle.layout.proofs.Counts.{sum_next, idle_walk, colours_walk, idle_here, idle_later, idle_end, idle_all}
@@ -21,7 +21,7 @@ pub returns-then-idle : goal.returns-then-idle
 unfolding events_of
 returns-then-idle c =
     let i = idle_walk c.args.table.now c.args.markers.now c.args.users.now c.requires.counted c.loop-e.e c.loop-e.at (omega arith) c.loop-e.invariant.1 c.list_at-pre.result.now c.list_at-pre.ensures c.list_at.result.now c.list_at.ensures c.idle.ensures ∙ c.if-idle.true in
-    c.refused.ensures ∙ sym (ap (λ (o : Option ℕ). idle_or o (Fine (capped_count (net_of c.args.table.now)))) (c.loop-e.invariant.4 ∙ idle_here (net_of c.args.table.now) c.loop-e.e c.args.events c.loop-e-test.true i))
+    c.refused.ensures ∙ sym (ap (λ (o : Option ℕ). idle_or o (Ok (capped_count (net_of c.args.table.now)))) (c.loop-e.invariant.4 ∙ idle_here (net_of c.args.table.now) c.loop-e.e c.args.events c.loop-e-test.true i))
 
 pub overflow_add-at : goal.overflow_add-at
 overflow_add-at c =
@@ -45,4 +45,4 @@ returns c =
     let s = c.args.table.now in
     let z : c.loop-e.e ≡ (net_of s).events = omega arith in
     let t : c.loop-e.total ≡ sum (λ e. capped (size (net_of s) e)) (net_of s).events = c.loop-e.invariant.3 ∙ ap (λ (k : ℕ). sum (λ e. capped (size (net_of s) e)) k) z in
-    ap Fine t ∙ sym (ap (λ (o : Option ℕ). idle_or o (Fine (sum (λ e. capped (size (net_of s) e)) (net_of s).events))) (c.loop-e.invariant.4 ∙ idle_end (net_of s) c.loop-e.e c.args.events c.loop-e-test.false))
+    ap Ok t ∙ sym (ap (λ (o : Option ℕ). idle_or o (Ok (sum (λ e. capped (size (net_of s) e)) (net_of s).events))) (c.loop-e.invariant.4 ∙ idle_end (net_of s) c.loop-e.e c.args.events c.loop-e-test.false))

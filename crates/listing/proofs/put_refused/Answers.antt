@@ -3,7 +3,6 @@ use native.Mathlib.Omega.{arith}
 use Rattle.listing.specs.Text.{refused_line}
 use Rattle.spelling.proofs.Texts.{both}
 use Rattle.spelling.proofs.Decimal.{twenty}
-use Rattle.listing.proofs.Conditions.{by_short}
 use Rattle.listing.proofs.put_refused.Goals as goal
 
 pub put_text-third-requires : goal.put_text-third-requires
@@ -21,8 +20,8 @@ put_by-end-requires c =
 pub returns : goal.returns
 unfolding refused_line
 returns c =
-    both (both (both (both (both c.put_text-first.ensures c.put_number-second.ensures) c.put_text-third.ensures) c.put_number-fourth.ensures) c.put_by-end.ensures) c.put.ensures
+    both (both (both (both (both c.put_text-first.ensures c.put_number-second.ensures) c.put_text-third.ensures) c.put_number-fourth.ensures) c.put_by-end.ensures.named) c.put.ensures
 
 pub put-requires : goal.put-requires
 put-requires c =
-    omega (arith, c.put_text-first.ensures.told, c.put_number-second.ensures.told, c.put_text-third.ensures.told, c.put_number-fourth.ensures.told, c.put_by-end.ensures.told, twenty c.args.number (omega arith), twenty c.args.place (omega arith), by_short c.args.by c.well_formed.1.1.1.0)
+    omega (arith, c.put_text-first.ensures.told, c.put_number-second.ensures.told, c.put_text-third.ensures.told, c.put_number-fourth.ensures.told, c.put_by-end.ensures.near, twenty c.args.number (omega arith), twenty c.args.place (omega arith))

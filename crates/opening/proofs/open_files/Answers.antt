@@ -9,16 +9,16 @@ returns-in_default c =
 
 pub returns-in_default-reached : goal.returns-in_default-reached
 returns-in_default-reached c =
-    run_refused c.args.net.now c.args.run.now c.args.steps.now c.read_files-read.new.steps c.read_files-read.result c.requires.many c.read_files-read.ensures.answer c.read_files-read.ensures.after _ c.in-Fine.is c.reach_end-reached.result c.reach_end-reached.new.lifted c.reach_end-reached.new.end c.reach_end-reached.ensures c.in_default-reached.is c.refused-in_default-reached.result c.refused-in_default-reached.ensures _ _
+    run_refused c.args.net.now c.args.run.now c.args.steps.now c.read_files-read.new.steps c.read_files-read.result c.requires.many c.read_files-read.ensures.answer c.read_files-read.ensures.after _ c.in-Ok.is c.reach_end-reached.result c.reach_end-reached.new.lifted c.reach_end-reached.new.end c.reach_end-reached.ensures c.in_default-reached.is c.refused-in_default-reached.result c.refused-in_default-reached.ensures _ _
 
 pub returns-in_default-judged : goal.returns-in_default-judged
 returns-in_default-judged c =
-    never_refused c.args.net.now c.args.run.now c.args.steps.now c.read_files-read.new.steps c.read_files-read.result c.requires.many c.read_files-read.ensures.answer c.read_files-read.ensures.after _ c.in-Fine.is c.reach_end-reached.result c.reach_end-reached.new.lifted c.reach_end-reached.new.end c.reach_end-reached.ensures c.set_up-judged.result c.set_up-judged.new.offsets c.set_up-judged.new.marking c.set_up-judged.ensures c.in_default-judged.is
+    never_refused c.args.net.now c.args.run.now c.args.steps.now c.read_files-read.new.steps c.read_files-read.result c.requires.many c.read_files-read.ensures.answer c.read_files-read.ensures.after _ c.in-Ok.is c.reach_end-reached.result c.reach_end-reached.new.lifted c.reach_end-reached.new.end c.reach_end-reached.ensures c.set_up-judged.result c.set_up-judged.new.offsets c.set_up-judged.new.marking c.set_up-judged.ensures c.in_default-judged.is
 
 pub returns : goal.returns
 returns c =
-    opened c.args.net.now c.args.run.now c.args.steps.now c.read_files-read.new.steps c.read_files-read.result c.requires.many c.read_files-read.ensures.answer c.read_files-read.ensures.after _ c.in-Fine.is c.reach_end-reached.result c.reach_end-reached.new.lifted c.reach_end-reached.new.end c.reach_end-reached.ensures c.set_up-judged.result c.set_up-judged.new.offsets c.set_up-judged.new.marking c.set_up-judged.ensures _ refl c.in-Fine-reached.is c.in-Fine-judged.is c.conditions-conditions.ensures
+    opened c.args.net.now c.args.run.now c.args.steps.now c.read_files-read.new.steps c.read_files-read.result c.requires.many c.read_files-read.ensures.answer c.read_files-read.ensures.after _ c.in-Ok.is c.reach_end-reached.result c.reach_end-reached.new.lifted c.reach_end-reached.new.end c.reach_end-reached.ensures c.set_up-judged.result c.set_up-judged.new.offsets c.set_up-judged.new.marking c.set_up-judged.ensures _ refl c.in-Ok-reached.is c.in-Ok-judged.is c.conditions-conditions.ensures
 
 pub slice_bounds-reach_end-end : goal.slice_bounds-reach_end-end
 slice_bounds-reach_end-end c =
-    read_room c.args.net.now c.args.run.now c.args.steps.now c.read_files-read.new.steps c.read_files-read.result c.requires.many c.read_files-read.ensures.answer c.read_files-read.ensures.after _ c.in-Fine.is c.read_files-read.auto.steps
+    read_room c.args.net.now c.args.run.now c.args.steps.now c.read_files-read.new.steps c.read_files-read.result c.requires.many c.read_files-read.ensures.answer c.read_files-read.ensures.after _ c.in-Ok.is c.read_files-read.auto.steps

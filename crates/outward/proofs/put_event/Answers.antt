@@ -8,4 +8,4 @@ returns-in_default c = rw c.in_default.is
 
 pub returns : goal.returns
 unfolding given
-returns c = rw c.in-Fine.is
+returns c = rw c.in-Ok.is

@@ -14,7 +14,7 @@ returns-in_default c =
 pub returns : goal.returns
 unfolding markers_of markers_into
 returns c =
-    let told = c.in-Fine.is in
+    let told = c.in-Ok.is in
     record {
       answer = rw told c.write_markers.ensures.answer;
       after = rw (told, ← c.write_markers.ensures.answer) c.write_markers.ensures.after;

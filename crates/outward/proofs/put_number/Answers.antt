@@ -8,8 +8,8 @@ unfolding value_or
 returns-in_default c = rw c.in_default.is
 
 pub overflow_cast-number : goal.overflow_cast-number
-overflow_cast-number c = omega (arith, rw c.in-Fine.is at c.requires)
+overflow_cast-number c = omega (arith, rw c.in-Ok.is at c.requires)
 
 pub returns : goal.returns
 unfolding value_or
-returns c = rw c.in-Fine.is
+returns c = rw c.in-Ok.is

@@ -8,4 +8,4 @@ returns-in_default c = rw c.in_default.is
 
 pub returns : goal.returns
 unfolding value_or
-returns c = rw c.in-Fine.is
+returns c = rw c.in-Ok.is

@@ -25,14 +25,14 @@ returns-in_default c =
 
 pub overflow_cast-n : goal.overflow_cast-n
 overflow_cast-n c =
-    let a = accepted _ _ (sym c.judge-r.ensures ∙ c.in-Fine.is) in
+    let a = accepted _ _ (sym c.judge-r.ensures ∙ c.in-Ok.is) in
     omega arith
 
 pub returns : goal.returns
 unfolding marking_part_of marking_place_of
 returns c =
     let s = c.args.table.now in
-    let j = sym c.judge-r.ensures ∙ c.in-Fine.is in
+    let j = sym c.judge-r.ensures ∙ c.in-Ok.is in
     let x = marking_asked s _ j in
     let p = c.marking_at.ensures in
     let o = c.offset.ensures in

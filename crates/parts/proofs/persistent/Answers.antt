@@ -1,25 +1,34 @@
 -- `parts::persistent` meets its contract.
-use Rattle.refusal.specs.declared.Judged.TheVariants.{Fine}
+use Rattle.std.proofs.Common.{rules}
+use Rattle.std.specs.Prelude.{Err}
+use mathlib.Core.Path.{◌≡◌, ◌∙◌, sym, refl}
+use mathlib.Core.Bool.{true, false}
+use borrow.Author.Tests.{eq-eqb, ne_eqb}
 use Rattle.table.specs.Decoded.{net_of}
-use mathlib.Core.Path.{◌∙◌, sym, ap}
-use Prim.Native.Nat.{ℕ}
-use lib.Dec.{eqb}
-use Rattle.refusal.specs.declared.Judged.{Judged}
-use Rattle.parts.specs.Asked.{persistence_if, persistence_of}
+use Rattle.parts.specs.Asked.{persistence_of}
 use Rattle.parts.proofs.Asking.{flag_read}
 use Rattle.parts.proofs.persistent.Goals as goal
 
-pub returns-in_default : goal.returns-in_default
+pub returns-in_err-at : goal.returns-in_err-at
 unfolding persistence_of
-returns-in_default c =
-    c.answered.ensures ∙ simp (c.in_default.is, sym c.asked_condition-r.ensures ∙ c.in_default.is)
+returns-in_err-at c =
+    let told : c.from_residual.result ≡ Err c.in_err-at.field-0.0 = search rules in
+    told ∙ rw (sym c.in_err-at.ensures) refl
 
-pub returns : goal.returns
+pub returns-then-byte-eq1 : goal.returns-then-byte-eq1
 unfolding persistence_of
-returns c =
+returns-then-byte-eq1 c =
     let s = c.args.table.now in
     let b = c.args.b.0 in
-    let at = c.in-Fine.at in
-    let found = sym c.in-Fine.is ∙ c.asked_condition-r.ensures in
-    let flag = ap (λ (x : ℕ). eqb x 1) c.byte.ensures ∙ flag_read s b at (sym found) in
-    c.answered-2.ensures ∙ ap (persistence_if (Fine at)) flag ∙ ap (λ (x : Judged). persistence_if x ((net_of s).persistent b)) found
+    let found = sym c.in_ok-at.ensures in
+    let flag : (net_of s).persistent b ≡ true = sym (flag_read s b c.in_ok-at.at found) ∙ eq-eqb _ _ (sym c.byte.ensures ∙ c.if-byte-eq1.true) in
+    rw (found, flag)
+
+pub returns-else-byte-eq1 : goal.returns-else-byte-eq1
+unfolding persistence_of
+returns-else-byte-eq1 c =
+    let s = c.args.table.now in
+    let b = c.args.b.0 in
+    let found = sym c.in_ok-at.ensures in
+    let flag : (net_of s).persistent b ≡ false = sym (flag_read s b c.in_ok-at.at found) ∙ ne_eqb _ _ (λ e. c.if-byte-eq1.false (c.byte.ensures ∙ e)) in
+    rw (found, flag)

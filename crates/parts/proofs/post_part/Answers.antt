@@ -25,10 +25,10 @@ pub returns : goal.returns
 unfolding post_part_of post_place_of
 returns c =
     let s = c.args.table.now in
-    let found = sym c.asked-r.ensures ∙ c.in-Fine.is in
+    let found = sym c.asked-r.ensures ∙ c.in-Ok.is in
     let room = asked_room s _ _ found in
     let p = c.post_at.ensures in
-    let at = place_at c.asked-r.ensures c.in-Fine.is s (λ (x : ℕ). x + 8 + 2 * pre_count s x) (omega arith) in record {
-      shown = record { reads = p.reads ∙ shown_at_lem c.asked-r.ensures c.in-Fine.is (post_part s); within = p.within; begins = omega arith };
+    let at = place_at c.asked-r.ensures c.in-Ok.is s (λ (x : ℕ). x + 8 + 2 * pre_count s x) (omega arith) in record {
+      shown = record { reads = p.reads ∙ shown_at_lem c.asked-r.ensures c.in-Ok.is (post_part s); within = p.within; begins = omega arith };
       read = ap words p.reads ∙ list_post s _ _ found;
     }

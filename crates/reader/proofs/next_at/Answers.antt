@@ -11,4 +11,4 @@ returns-in_default c =
 pub returns : goal.returns
 unfolding next_of
 returns c =
-    simp (sym c.record_at-r.ensures ∙ c.in-Fine.is)
+    simp (sym c.record_at-r.ensures ∙ c.in-Ok.is)

@@ -13,19 +13,19 @@ returns-then-word-ne6 c =
 pub returns-in_default : goal.returns-in_default
 unfolding rule_of need
 returns-in_default c =
-    c.refused.ensures ∙ simp (← c.word.ensures, eq-eqb _ _ c.if-word-ne6.false, sym c.header_at-h.ensures ∙ c.in_default.is)
+    c.refused.ensures ∙ simp (← c.word.ensures, eq-eqb _ _ c.if-word-ne6.false, sym c.header_at.ensures ∙ c.in_default.is)
 
 pub returns-then-len-ne1 : goal.returns-then-len-ne1
 unfolding rule_of need
 returns-then-len-ne1 c =
-    c.refused-then-len-ne1.ensures ∙ simp (← c.word.ensures, eq-eqb _ _ c.if-word-ne6.false, sym c.header_at-h.ensures ∙ c.in-Whole.is, ne_eqb _ _ c.if-len-ne1.true)
+    c.refused-then-len-ne1.ensures ∙ simp (← c.word.ensures, eq-eqb _ _ c.if-word-ne6.false, sym c.header_at.ensures ∙ c.in-Some.is, ne_eqb _ _ c.if-len-ne1.true)
 
 pub returns-then-byte-gt1 : goal.returns-then-byte-gt1
 unfolding rule_of need
 returns-then-byte-gt1 c =
-    c.refused-then-byte-gt1.ensures ∙ simp (← c.word.ensures, eq-eqb _ _ c.if-word-ne6.false, sym c.header_at-h.ensures ∙ c.in-Whole.is, eq-eqb _ _ c.if-len-ne1.false, ← c.byte.ensures, lt-leb _ _ c.if-byte-gt1.true)
+    c.refused-then-byte-gt1.ensures ∙ simp (← c.word.ensures, eq-eqb _ _ c.if-word-ne6.false, sym c.header_at.ensures ∙ c.in-Some.is, eq-eqb _ _ c.if-len-ne1.false, ← c.byte.ensures, lt-leb _ _ c.if-byte-gt1.true)
 
 pub returns : goal.returns
 unfolding rule_of need
 returns c =
-    simp (← c.word.ensures, eq-eqb _ _ c.if-word-ne6.false, sym c.header_at-h.ensures ∙ c.in-Whole.is, eq-eqb _ _ c.if-len-ne1.false, ← c.byte.ensures, le-leb _ _ c.if-byte-gt1.false)
+    simp (← c.word.ensures, eq-eqb _ _ c.if-word-ne6.false, sym c.header_at.ensures ∙ c.in-Some.is, eq-eqb _ _ c.if-len-ne1.false, ← c.byte.ensures, le-leb _ _ c.if-byte-gt1.false)

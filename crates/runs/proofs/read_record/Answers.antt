@@ -1,7 +1,8 @@
 -- The steps are read one after the other: storing what is left gives what storing the whole run gives.
+use Rattle.std.proofs.Common.{rules}
 use Prim.Native.Nat.{ℕ}
 use native.Mathlib.Omega.{arith}
-use mathlib.Core.Path.{refl, sym, ◌∙◌}
+use mathlib.Core.Path.{◌≡◌, refl, sym, ◌∙◌}
 use lib.ListN.{length-set}
 use Rattle.lists.proofs.Stored.{stored_whole, store_next, store_end}
 use Rattle.runs.specs.Runs.{run_of}
@@ -9,19 +10,20 @@ use Rattle.runs.proofs.Judging.{fine_is_record, length_run, step_at}
 use Rattle.runs.proofs.Answers.{read_refused, read_short, read_fits}
 use Rattle.runs.proofs.read_record.Goals as goal
 
-pub returns-in_default : goal.returns-in_default
-returns-in_default c =
-    let told = c.in_default.is in
-    let found = sym c.steps_in-judged.ensures ∙ told in
+pub returns-in_err-steps : goal.returns-in_err-steps
+returns-in_err-steps c =
+    let same : c.from_residual.result ≡ c.steps_in.result = search rules in
+    let told = c.in_err-steps.was in
+    let found = sym c.steps_in.ensures ∙ told in
     let (answer, lent) = read_refused _ _ c.args.run.now _ found in
     record {
-      answer = told ∙ sym answer;
+      answer = same ∙ told ∙ sym answer;
       lent = sym lent;
     }
 
 pub returns-then-run-steps : goal.returns-then-run-steps
 returns-then-run-steps c =
-    let found = sym c.steps_in-judged.ensures ∙ c.in-Fine.is in
+    let found = sym c.steps_in.ensures ∙ c.in_ok-steps.was in
     let (answer, lent) = read_short _ _ c.args.run.now _ found c.if-run-steps.true in
     record {
       answer = c.refused.ensures ∙ sym answer;
@@ -30,7 +32,7 @@ returns-then-run-steps c =
 
 pub loop-k-init : goal.loop-k-init
 loop-k-init c =
-    let found = sym c.steps_in-judged.ensures ∙ c.in-Fine.is in
+    let found = sym c.steps_in.ensures ∙ c.in_ok-steps.was in
     (fine_is_record _ _ _ found, refl, refl)
 
 pub loop-k-preserved : goal.loop-k-preserved
@@ -45,7 +47,7 @@ loop-k-preserved c =
 pub returns : goal.returns
 returns c =
     let args = c.args in
-    let found = sym c.steps_in-judged.ensures ∙ c.in-Fine.is in
+    let found = sym c.steps_in.ensures ∙ c.in_ok-steps.was in
     let fits = c.if-run-steps.false in
     let (answer, lent) = read_fits _ _ args.run.now _ found fits in
     let loop = c.loop-k in

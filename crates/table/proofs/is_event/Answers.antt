@@ -2,10 +2,10 @@
 use mathlib.Core.Path.{◌∙◌, sym}
 use Rattle.table.proofs.is_event.Goals as goal
 
-pub returns-in_default : goal.returns-in_default
-returns-in_default c =
-    simp (sym c.header_at-h.ensures ∙ c.in_default.is)
+pub returns-in-None : goal.returns-in-None
+returns-in-None c =
+    simp (sym c.header_at.ensures ∙ c.in-None.is)
 
-pub returns : goal.returns
-returns c =
-    simp (sym c.header_at-h.ensures ∙ c.in-Whole.is)
+pub returns-in-Some : goal.returns-in-Some
+returns-in-Some c =
+    simp (sym c.header_at.ensures ∙ c.in-Some.is)

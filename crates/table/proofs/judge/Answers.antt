@@ -13,11 +13,11 @@ returns-in_default c =
 
 pub returns-in_default-first : goal.returns-in_default-first
 returns-in_default-first c =
-    passed_up _ c.conditions_record-first.ensures c.in_default-first.is ∙ sym (judge_starts _ ∙ goes_on _ c.rule_record-rule.ensures c.in-Fine.is)
+    passed_up _ c.conditions_record-first.ensures c.in_default-first.is ∙ sym (judge_starts _ ∙ goes_on _ c.rule_record-rule.ensures c.in-Ok.is)
 
 pub loop-front-init : goal.loop-front-init
 loop-front-init c =
-    (search rules, judge_starts _ ∙ goes_on _ c.rule_record-rule.ensures c.in-Fine.is ∙ goes_on _ c.conditions_record-first.ensures c.in-Fine-first.is)
+    (search rules, judge_starts _ ∙ goes_on _ c.rule_record-rule.ensures c.in-Ok.is ∙ goes_on _ c.conditions_record-first.ensures c.in-Ok-first.is)
 
 pub returns-then-left-eq0 : goal.returns-then-left-eq0
 returns-then-left-eq0 c =
@@ -30,7 +30,7 @@ returns-in_default-r c =
 
 pub loop-front-preserved : goal.loop-front-preserved
 loop-front-preserved c =
-    let on = goes_on _ c.event_record-r.ensures c.in-Fine-r.is in
+    let on = goes_on _ c.event_record-r.ensures c.in-Ok-r.is in
     (omega arith, c.loop-front.invariant.1 ∙ events_event _ _ (sym c.is_event.ensures ∙ c.loop-front-test.true) _ c.if-left-eq0.false ∙ on)
 
 pub returns-in_default-last : goal.returns-in_default-last
@@ -40,4 +40,4 @@ returns-in_default-last c =
 
 pub returns : goal.returns
 returns c =
-    sym (c.loop-front.invariant.1 ∙ events_last _ _ _ (sym c.is_event.ensures ∙ c.loop-front-test.false) ∙ goes_on _ c.marking_record-last.ensures c.in-Fine-last.is)
+    sym (c.loop-front.invariant.1 ∙ events_last _ _ _ (sym c.is_event.ensures ∙ c.loop-front-test.false) ∙ goes_on _ c.marking_record-last.ensures c.in-Ok-last.is)

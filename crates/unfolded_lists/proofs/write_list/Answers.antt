@@ -4,8 +4,8 @@ use mathlib.Core.Path.{◌≡◌, ◌∙◌, sym, subst}
 use lib.Dec.{ltb}
 use lib.ListN.{length}
 use Rattle.model.specs.Unfolding.{basic}
-use Rattle.refusal.specs.declared.Judged.TheVariants.{Fine}
-use Rattle.refusal.specs.declared.Judged.{Judged}
+use Rattle.std.specs.Prelude.{Ok}
+use Rattle.refusal.specs.Answer.{Judged}
 use Rattle.refusal.specs.Answer.{need, fitting}
 use Rattle.table.specs.Decoded.{net_of}
 use Rattle.tally.specs.Having.{list_of}
@@ -21,24 +21,25 @@ use Rattle.segments.proofs.Listed.{owned_by, ranges_by}
 use borrow.Author.Rules.{rules}
 use Rattle.unfolded_lists.proofs.write_list.Goals as goal
 
-pub returns-in_default : goal.returns-in_default
+pub returns-in_err-events : goal.returns-in_err-events
 unfolding unfolded_list_of
-returns-in_default c =
+returns-in_err-events c =
+    let same : c.from_residual.result ≡ c.lay_out.result = search rules in
     let n = net_of c.args.table.now in
     let own = need (ltb c.args.j.0 (basic n).events) 10 0 (fitting (length (list_of (basic n) c.args.post c.args.j.0)) (length c.args.out.now)) in
-    let told : c.lay_out-r.result ≡ unfolding_of c.args.table.now own = unfolds_passed c.args.table.now own (net_of c.args.table.now).events c.lay_out-r.ensures.answer c.in_default.is in
+    let told : c.lay_out.result ≡ unfolding_of c.args.table.now own = unfolds_passed c.args.table.now own (net_of c.args.table.now).events c.lay_out.ensures.answer c.in_err-events.was in
     record {
-      answer = told;
-      after = kept c.args.table.now c.args.post c.args.j.0 c.args.out.now (sym told ∙ c.in_default.is);
+      answer = same ∙ told;
+      after = kept c.args.table.now c.args.post c.args.j.0 c.args.out.now (sym told ∙ c.in_err-events.was);
     }
 
 pub owner-f-requires : goal.owner-f-requires
 owner-f-requires c =
-    within_laid c.args.table.now c.lay_out-r.new.markers c.lay_out-r.new.users c.lay_out-r.new.bases c.in-Fine.events (c.lay_out-r.ensures.laid c.in-Fine.events c.in-Fine.is) (unfolds_on c.args.table.now (Fine 0) (net_of c.args.table.now).events c.lay_out-r.ensures.answer c.in-Fine.is).1
+    within_laid c.args.table.now c.lay_out.new.markers c.lay_out.new.users c.lay_out.new.bases c.in_ok-events.events (c.lay_out.ensures.laid c.in_ok-events.events c.in_ok-events.was) (unfolds_on c.args.table.now (Ok 0) (net_of c.args.table.now).events c.lay_out.ensures.answer c.in_ok-events.was).1
 
 pub returns-in_default-f : goal.returns-in_default-f
 returns-in_default-f c =
-    let u : (own : Judged) → unfolding_of c.args.table.now own ≡ own = λ own. (unfolds_on c.args.table.now own (net_of c.args.table.now).events c.lay_out-r.ensures.answer c.in-Fine.is).0 in
+    let u : (own : Judged) → unfolding_of c.args.table.now own ≡ own = λ own. (unfolds_on c.args.table.now own (net_of c.args.table.now).events c.lay_out.ensures.answer c.in_ok-events.was).0 in
     let past = listing_past c.args.table.now c.args.post c.args.j.0 c.args.out.now u (subst (λ (x : Found). Belongs c.args.table.now c.args.j.0 x) c.in_default-f.is c.owner-f.ensures) in
     record {
       answer = c.refused.ensures ∙ past;
@@ -49,7 +50,7 @@ pub ranges-k-requires : goal.ranges-k-requires
 ranges-k-requires c =
     let o = subst (λ (x : Found). Belongs c.args.table.now c.args.j.0 x) c.in-At.is c.owner-f.ensures in
     record {
-      owned = owned_by c.args.table.now _ _ _ _ _ _ _ c.own-own.result c.own-own.ensures (record { laid = c.lay_out-r.ensures.laid c.in-Fine.events c.in-Fine.is; event = o.event; offset = o.offset; whole = o.whole; below = o.below });
+      owned = owned_by c.args.table.now _ _ _ _ _ _ _ c.own-own.result c.own-own.ensures (record { laid = c.lay_out.ensures.laid c.in_ok-events.events c.in_ok-events.was; event = o.event; offset = o.offset; whole = o.whole; below = o.below });
       starts_len = (search rules, search rules);
     }
 
@@ -62,7 +63,7 @@ total-needed-requires c =
 
 pub returns-then-out-needed : goal.returns-then-out-needed
 returns-then-out-needed c =
-    let u : (own : Judged) → unfolding_of c.args.table.now own ≡ own = λ own. (unfolds_on c.args.table.now own (net_of c.args.table.now).events c.lay_out-r.ensures.answer c.in-Fine.is).0 in
+    let u : (own : Judged) → unfolding_of c.args.table.now own ≡ own = λ own. (unfolds_on c.args.table.now own (net_of c.args.table.now).events c.lay_out.ensures.answer c.in_ok-events.was).0 in
     let o = subst (λ (x : Found). Belongs c.args.table.now c.args.j.0 x) c.in-At.is c.owner-f.ensures in
     let short = listing_short c.args.table.now c.args.post c.args.j.0 c.args.out.now u o c.ranges-k.new.starts c.ranges-k.new.sizes c.ranges-k.result (ranges_by c.args.table.now c.args.post _ _ _ _ c.own-own.result c.own-own.ensures _ _ _ c.ranges-k.ensures) c.total-needed.result c.total-needed.ensures c.if-out-needed.true in
     record {
@@ -81,7 +82,7 @@ put_ranges-requires c =
 
 pub returns : goal.returns
 returns c =
-    let u : (own : Judged) → unfolding_of c.args.table.now own ≡ own = λ own. (unfolds_on c.args.table.now own (net_of c.args.table.now).events c.lay_out-r.ensures.answer c.in-Fine.is).0 in
+    let u : (own : Judged) → unfolding_of c.args.table.now own ≡ own = λ own. (unfolds_on c.args.table.now own (net_of c.args.table.now).events c.lay_out.ensures.answer c.in_ok-events.was).0 in
     let o = subst (λ (x : Found). Belongs c.args.table.now c.args.j.0 x) c.in-At.is c.owner-f.ensures in
     record {
       answer = listing_fine c.args.table.now c.args.post c.args.j.0 c.args.out.now u o c.ranges-k.new.starts c.ranges-k.new.sizes c.ranges-k.result (ranges_by c.args.table.now c.args.post _ _ _ _ c.own-own.result c.own-own.ensures _ _ _ c.ranges-k.ensures) c.total-needed.result c.total-needed.ensures c.if-out-needed.false;
