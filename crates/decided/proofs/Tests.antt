@@ -27,11 +27,13 @@ use Rattle.table.specs.Decoded.{net_of}
 use Rattle.tally.specs.Having.{Listed}
 use Rattle.table.proofs.Ruled.{rule_read}
 use Rattle.tally.proofs.Events.{judged, within_limits, list_read, list_ascends, list_inside}
-use Rattle.step.specs.declared.Step.TheVariants.{Goes, Stops}
-use Rattle.step.specs.declared.Cause.TheVariants.{Lacks, Meets}
-use Rattle.step.specs.declared.Failing.{Failing}
-use Rattle.step.specs.declared.Failing.TheVariants.{Nothing, At}
-use Rattle.step.specs.Steps.{failing_of, step_of}
+use Rattle.std.specs.Prelude.{Err}
+use Rattle.stopping.specs.Causes.{goes}
+use Rattle.stopping.specs.declared.Cause.TheVariants.{Lacks, Meets}
+use Rattle.step.specs.Steps.{Failing}
+use Rattle.std.specs.Prelude.{None, Some}
+use Rattle.step.specs.Steps.{failing_of}
+use Rattle.stopping.specs.Table.{step_of}
 use Rattle.decided.specs.Decided.{has_marked, ready, clear, stopped_by}
 use Rattle.decided.specs.Kept.{marker_at, kept_marker, ready_at, back_at, excused, clear_at, Deciding}
 use Rattle.decided.proofs.Decision.{user_reads}
@@ -173,26 +175,26 @@ module _ (s us : List ℕ) (at e : ℕ) (begun places kept : List ℕ) (d : Deci
     stops = rw (lacks_is, meets_is)
 
     module _ (x : Failing) (is_x : x ≡ failing_of low) where
-      pub found_lacks : (b : TableCondition) → x ≡ At b → Stops (Lacks b) ≡ step_of (stopped_by n (marking state) (marking seen) (marker_at n places) e)
+      pub found_lacks : (b : TableCondition) → x ≡ Some b → Err (Lacks b) ≡ step_of (stopped_by n (marking state) (marking seen) (marker_at n places) e)
       found_lacks b q = go low (sym is_x ∙ q) ∙ stops
         where
-          go : (o : Option ℕ) → failing_of o ≡ At b → Stops (Lacks b) ≡ step_of (first_stop true o high)
+          go : (o : Option ℕ) → failing_of o ≡ Some b → Err (Lacks b) ≡ step_of (first_stop true o high)
           go none q = absurd (let z : ◌≡◌ {A = ℕ} 0 1 = cc in omega arith)
-          go (some y) q = let z : record { 0 = y } ≡ b = cc in ap (λ (y : TableCondition). Stops (Lacks y)) (sym z)
+          go (some y) q = let z : record { 0 = y } ≡ b = cc in ap (λ (y : TableCondition). Err (Lacks y)) (sym z)
 
-      module _ (none-lacks : x ≡ Nothing) (y : Failing) (is_y : y ≡ failing_of high) where
-        pub found_meets : (b : TableCondition) → y ≡ At b → Stops (Meets b) ≡ step_of (stopped_by n (marking state) (marking seen) (marker_at n places) e)
+      module _ (none-lacks : x ≡ None) (y : Failing) (is_y : y ≡ failing_of high) where
+        pub found_meets : (b : TableCondition) → y ≡ Some b → Err (Meets b) ≡ step_of (stopped_by n (marking state) (marking seen) (marker_at n places) e)
         found_meets b q = go low high (sym is_x ∙ none-lacks) (sym is_y ∙ q) ∙ stops
           where
-            go : (o p : Option ℕ) → failing_of o ≡ Nothing → failing_of p ≡ At b → Stops (Meets b) ≡ step_of (first_stop true o p)
+            go : (o p : Option ℕ) → failing_of o ≡ None → failing_of p ≡ Some b → Err (Meets b) ≡ step_of (first_stop true o p)
             go none none d q = absurd (let z : ◌≡◌ {A = ℕ} 0 1 = cc in omega arith)
-            go none (some y) d q = let z : record { 0 = y } ≡ b = cc in ap (λ (y : TableCondition). Stops (Meets y)) (sym z)
+            go none (some y) d q = let z : record { 0 = y } ≡ b = cc in ap (λ (y : TableCondition). Err (Meets y)) (sym z)
             go (some y) p d q = absurd (let z : ◌≡◌ {A = ℕ} 0 1 = cc in omega arith)
 
-        pub found_nothing : y ≡ Nothing → Goes ≡ step_of (stopped_by n (marking state) (marking seen) (marker_at n places) e)
+        pub found_nothing : y ≡ None → goes ≡ step_of (stopped_by n (marking state) (marking seen) (marker_at n places) e)
         found_nothing q = go low high (sym is_x ∙ none-lacks) (sym is_y ∙ q) ∙ stops
           where
-            go : (o p : Option ℕ) → failing_of o ≡ Nothing → failing_of p ≡ Nothing → Goes ≡ step_of (first_stop true o p)
+            go : (o p : Option ℕ) → failing_of o ≡ None → failing_of p ≡ None → goes ≡ step_of (first_stop true o p)
             go none none d q = refl
             go none (some y) d q = absurd (let z : ◌≡◌ {A = ℕ} 0 1 = cc in omega arith)
             go (some y) p d q = absurd (let z : ◌≡◌ {A = ℕ} 0 1 = cc in omega arith)

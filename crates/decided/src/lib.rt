@@ -9,7 +9,8 @@ ghost use Rattle.model.specs.Lent.{marking};
 ghost use Rattle.table.specs.Decoded.{net_of};
 ghost use Rattle.tally.specs.Having.{Listed, Members};
 ghost use Rattle.colours.specs.Colours.{ending};
-ghost use Rattle.step.specs.Steps.{failing_of, step_of};
+ghost use Rattle.step.specs.Steps.{failing_of};
+ghost use Rattle.stopping.specs.Table.{step_of};
 ghost use Rattle.decided.specs.Decided.{stopped_by};
 ghost use Rattle.decided.specs.Kept.{marker_at, Kept, Keeping, Choosing, Chosen, marked_at, ready_at, back_at, excused, clear_at, Deciding};
 

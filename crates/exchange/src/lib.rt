@@ -22,8 +22,7 @@ fn apart_steps<'a>(
     ensures { result ≡ apart_step (net_of table.now) (begin (net_of table.now)) run.now k }
 {
     let start = played::start_held(table, n);
-    let played = played::play(table, n, offsets, &run[0..k], start);
-    let before = played.held;
+    let before = played::play(table, n, offsets, &run[0..k], start).unwrap();
     let e = run[k];
     let f = run[k + 1];
     apart::apart_at(
@@ -66,8 +65,7 @@ pub fn exchange(table: &[u8], run: &mut [u16], k: usize) -> Result<usize, Refusa
     let mut offsets = [0usize; 256];
     played::fill(table, n, &mut offsets);
     let start = played::start_held(table, n);
-    let played = played::play(table, n, &offsets, &run[..], start);
-    played.answer?;
+    played::play(table, n, &offsets, &run[..], start)?;
     if has_next(run.len(), k) {
         if apart_steps(table, n, &offsets, &run[..], k) {
             swap_first(&mut run[k..]);

@@ -28,10 +28,11 @@ use Rattle.step.specs.Steps.{set_all, stepped}
 use Rattle.game.specs.Calls.{firing_stopped, leaves}
 use Rattle.step.proofs.Bytes.{lent_at}
 use Rattle.step.proofs.Firing.{length_all, all_at}
-use Rattle.unfolded_step.specs.declared.Cause.{Cause}
-use Rattle.unfolded_step.specs.declared.Step.{Step}
-use Rattle.unfolded_step.specs.declared.Step.TheVariants.{Goes, Stops}
-use Rattle.unfolded_step.specs.Steps.{step_of, answered_of}
+use Rattle.stopping.specs.Unfolded.{Cause}
+use Rattle.stopping.specs.Unfolded.{Step}
+use Rattle.std.specs.Prelude.{Err}
+use Rattle.stopping.specs.Causes.{goes}
+use Rattle.stopping.specs.Unfolded.{step_of, answered_of}
 use Rattle.walking.specs.Steps.{stops, Summed}
 
 -- ---- the unfolded net
@@ -82,17 +83,17 @@ module _ (n : Net) (j : ℕ) where
 -- ---- a step over lists
 
 module _ (l pre post : List ℕ) (old : ℕ → Bool) (r : Step) (told : r ≡ step_of (stops (marking l) pre post old)) where
-  pub over_kept : (x : Cause) → r ≡ Stops x → l ≡ stepped (stops (marking l) pre post old) (set_all [] 1 post (set_all [] 0 pre l)) l
+  pub over_kept : (x : Cause) → r ≡ Err x → l ≡ stepped (stops (marking l) pre post old) (set_all [] 1 post (set_all [] 0 pre l)) l
   over_kept x h = go (stops (marking l) pre post old) (sym told ∙ h)
     where
-      go : (o : Option Stop) → step_of o ≡ Stops x → l ≡ stepped o (set_all [] 1 post (set_all [] 0 pre l)) l
+      go : (o : Option Stop) → step_of o ≡ Err x → l ≡ stepped o (set_all [] 1 post (set_all [] 0 pre l)) l
       go none e = absurd (let z : ◌≡◌ {A = ℕ} 0 1 = cc in omega arith)
       go (some v) e = refl
 
-  pub over_written : r ≡ Goes → set_all [] 1 post (set_all [] 0 pre l) ≡ stepped (stops (marking l) pre post old) (set_all [] 1 post (set_all [] 0 pre l)) l
+  pub over_written : r ≡ goes → set_all [] 1 post (set_all [] 0 pre l) ≡ stepped (stops (marking l) pre post old) (set_all [] 1 post (set_all [] 0 pre l)) l
   over_written h = go (stops (marking l) pre post old) (sym told ∙ h)
     where
-      go : (o : Option Stop) → step_of o ≡ Goes → set_all [] 1 post (set_all [] 0 pre l) ≡ stepped o (set_all [] 1 post (set_all [] 0 pre l)) l
+      go : (o : Option Stop) → step_of o ≡ goes → set_all [] 1 post (set_all [] 0 pre l) ≡ stepped o (set_all [] 1 post (set_all [] 0 pre l)) l
       go none e = refl
       go (some v) e = absurd (let z : ◌≡◌ {A = ℕ} 0 1 = cc in omega arith)
 

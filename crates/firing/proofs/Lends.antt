@@ -30,9 +30,9 @@ use Rattle.game.specs.Calls.{firing_stopped, leaves}
 use Rattle.step.specs.Steps.{stepped}
 use Rattle.step.proofs.Bytes.{lent_of}
 use Rattle.game.proofs.Marked.{wrong_length, byte_above, all_right, none_above}
-use Rattle.unfolded_step.specs.declared.Step.{Step}
+use Rattle.stopping.specs.Unfolded.{Step}
 use Rattle.firing.specs.Calls.{unfolded_fire_of, unfolded_fired_of}
-use Rattle.unfolded_step.specs.Steps.{step_of, answered_of}
+use Rattle.stopping.specs.Unfolded.{step_of, answered_of}
 use Rattle.firing.specs.Steps.{Lending}
 use Rattle.firing.proofs.Fired.{stops_past, answers, leaves_so}
 

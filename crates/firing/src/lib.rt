@@ -11,7 +11,7 @@ ghost use Rattle.table.specs.Decoded.{net_of};
 ghost use Rattle.segments.specs.Ranges.{ranged, Owned};
 ghost use Rattle.step.specs.Lent.{Lent};
 ghost use Rattle.step.specs.Steps.{set_all, stepped};
-ghost use Rattle.unfolded_step.specs.Steps.{step_of};
+ghost use Rattle.stopping.specs.Unfolded.{step_of};
 ghost use Rattle.walking.specs.Steps.{stops, Summed, Below};
 ghost use Rattle.firing.specs.Calls.{unfolded_fire_of, unfolded_fired_of};
 ghost use Rattle.firing.specs.Steps.{Lending};

@@ -25,14 +25,15 @@ use Rattle.table.specs.Decoded.{net_of}
 use Rattle.table.specs.Links.{refusing, refused_or}
 use Rattle.table.proofs.Walk.{accepted}
 use Rattle.table.proofs.Decoded.{net_judged, conditions_are_all}
-use Rattle.step.specs.declared.Cause.TheVariants.{Unknown}
-use Rattle.step.specs.declared.Step.{Step}
-use Rattle.step.specs.declared.Step.TheVariants.{Stops}
+use Rattle.stopping.specs.declared.Cause.TheVariants.{Unknown}
+use Rattle.stopping.specs.Table.{Step}
+use Rattle.std.specs.Prelude.{Err}
 use Rattle.model.specs.Lent.{bytes, marking}
 use Rattle.step.specs.Lent.{Lent}
 use Rattle.step.specs.Tests.{Recorded}
 use Rattle.game.specs.Lent.{lent}
-use Rattle.step.specs.Steps.{lists_net, record_net, cause_of, step_of, stepped, stopped_at, answered_of}
+use Rattle.step.specs.Steps.{lists_net, record_net, stepped}
+use Rattle.stopping.specs.Table.{cause_of, step_of, stopped_at, answered_of}
 use Rattle.game.specs.Calls.{on_marking, leaves, firing_stopped, firing_of, fired_of}
 use Rattle.game.specs.Ready.{ready_of}
 use Rattle.game.proofs.Marked.{on_then, on_fine}
@@ -75,7 +76,7 @@ module _ (s : List ℕ) (n : ℕ) (j : judge_of s ≡ Ok n) (e : ℕ) (l : List 
   abbrev new_by : List ℕ
   new_by = bytes (length l) (fire (net_of s) (marking l) e)
 
-  pub number_unknown : n ≤ e → (Stops Unknown ≡ step_of stops_by) × (l ≡ stepped stops_by new_by l)
+  pub number_unknown : n ≤ e → (Err Unknown ≡ step_of stops_by) × (l ≡ stepped stops_by new_by l)
   number_unknown h = let q = stopping_unknown s n j e (le-ltb e n h) (marking l) in (rw q, rw q)
 
   module _ (h : e < n) (at : ℕ) (is_at : at ≡ offset_of s e) where

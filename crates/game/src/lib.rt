@@ -43,7 +43,7 @@ pub fn first_above(state: &[u8]) -> usize
 pub fn judge_lent<'a>(table: &'a [u8], marking: &'a [u8]) -> Result<usize, Refusal>
     ensures { result ≡ on_marking table.now marking.now Ok }
 {
-    table::judge(table)?;
+    let events = table::judge(table)?;
     let count = records::conditions(table) as usize;
     if marking.len() != count {
         return refusal::refused(18, count);
@@ -52,7 +52,7 @@ pub fn judge_lent<'a>(table: &'a [u8], marking: &'a [u8]) -> Result<usize, Refus
     if above < marking.len() {
         return refusal::refused(18, above);
     }
-    judged
+    Ok(events)
 }
 
 // An event asked for at a lent marking; fine: the offset of its record.
@@ -72,7 +72,8 @@ pub fn concession<'a>(table: &'a [u8], marking: &'a [u8], event: TableEvent) -> 
     ensures { result ≡ concession_of table.now marking.now event.0 }
 {
     let at = ready(table, marking, event.0)?;
-    step::answered(step::test_at(table, at, marking), 0)
+    step::test_at(table, at, marking)?;
+    Ok(0)
 }
 
 // An event fired at a lent marking, over which the new one is written.
@@ -82,5 +83,6 @@ pub fn fire(table: &[u8], marking: &mut [u8], event: TableEvent) -> Result<usize
 {
     let at = ready(table, &marking[..], event.0)?;
     let count = marking.len();
-    step::answered(step::step_at(table, at, marking), count)
+    step::step_at(table, at, marking)?;
+    Ok(count)
 }

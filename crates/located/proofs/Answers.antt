@@ -7,13 +7,14 @@ use Rattle.lists.specs.Lists.{mem}
 use Rattle.model.specs.Net.{Net, Stop, unknown, lacks, meets}
 use Rattle.model.specs.Numbering.{condition_number}
 use Rattle.refusal.specs.declared.TableCondition.{TableCondition}
-use Rattle.step.specs.declared.Cause.{Cause}
-use Rattle.step.specs.declared.Cause.TheVariants.{Unknown, Lacks, Meets}
-use Rattle.step.specs.declared.Step.{Step}
-use Rattle.step.specs.declared.Step.TheVariants.{Goes, Stops}
-use Rattle.unfolded_step.specs.declared.Cause.TheVariants as unfolded
+use Rattle.stopping.specs.Table.{Cause}
+use Rattle.stopping.specs.declared.Cause.TheVariants.{Unknown, Lacks, Meets}
+use Rattle.stopping.specs.Table.{Step}
+use Rattle.std.specs.Prelude.{Err}
+use Rattle.stopping.specs.Causes.{goes}
+use Rattle.stopping.specs.declared.Cause.TheVariants as unfolded
 use Rattle.unfolded_step.specs.declared.Step.TheVariants as answer
-use Rattle.unfolded_step.specs.Steps.{step_of}
+use Rattle.stopping.specs.Unfolded.{step_of}
 use Rattle.decided.specs.Decided.{Picks, lacked_condition, met_condition, unfolded_stop}
 use Rattle.located.specs.Located.{said_by, stop_of, Left, Named, Told}
 
@@ -33,7 +34,7 @@ module _ (n : Net) (pick : Picks) (e : ℕ) where
   pub names_met : {x : Cause} {b : TableCondition} → x ≡ Meets b → Named n pick e x → T (mem b.0 (n.postconditions e)) × Left n pick e b.0
   names_met z t = subst (Named n pick e) z t
 
-  pub told_stops : {r : Step} {x : Cause} → r ≡ Stops x → Told n pick e r → Told n pick e (Stops x)
+  pub told_stops : {r : Step} {x : Cause} → r ≡ Err x → Told n pick e r → Told n pick e (Err x)
   told_stops z t = subst (Told n pick e) z t
 
   -- ---- the answers
@@ -49,5 +50,5 @@ module _ (n : Net) (pick : Picks) (e : ℕ) where
       → answer.Stops (unfolded.Meets (record { 0 = k })) ≡ step_of (unfolded_stop n pick e (some (said_by x)))
   met_there z h = rw (z, h)
 
-  pub goes_there : {r : Step} → r ≡ Goes → answer.Goes ≡ step_of (unfolded_stop n pick e (stop_of r))
+  pub goes_there : {r : Step} → r ≡ goes → answer.Goes ≡ step_of (unfolded_stop n pick e (stop_of r))
   goes_there z = rw z

@@ -18,10 +18,10 @@ use Rattle.table.specs.Decoded.{net_of}
 use Rattle.tally.specs.Having.{having}
 use Rattle.colours.specs.Colours.{flagged}
 use Rattle.layout.proofs.Counts.{user_place, uses_at}
-use Rattle.step.specs.declared.Cause.{Cause}
-use Rattle.step.specs.declared.Cause.TheVariants.{Lacks, Meets}
-use Rattle.step.specs.declared.Step.TheVariants.{Stops}
-use Rattle.step.specs.Steps.{step_of}
+use Rattle.stopping.specs.Table.{Cause}
+use Rattle.stopping.specs.declared.Cause.TheVariants.{Lacks, Meets}
+use Rattle.std.specs.Prelude.{Err}
+use Rattle.stopping.specs.Table.{step_of}
 use Rattle.decided.specs.Decided.{Picks, ready, clear, stopped_by, lacked_condition, met_condition}
 use Rattle.decided.specs.Kept.{marker_at}
 use Rattle.decided.proofs.Named.{not_clear, left, lacked_in, met_in}
@@ -110,12 +110,12 @@ module _ (s ms us : List ℕ) (events e : ℕ) (places kept : List ℕ) (q : Loc
 
   -- ---- what stops an event names one of its conditions
 
-  pub told_named : (x : Cause) → Told n pick e (Stops x) → Named n pick e x
+  pub told_named : (x : Cause) → Told n pick e (Err x) → Named n pick e x
   unfolding stopped_by
   told_named x d = go (failing (ready n d.marking d.seen pick) (n.preconditions e)) (failing (clear n d.marking d.seen pick e) (n.postconditions e)) refl refl d.told
     where
       go : (a c : Option ℕ) → failing (ready n d.marking d.seen pick) (n.preconditions e) ≡ a → failing (clear n d.marking d.seen pick e) (n.postconditions e) ≡ c
-          → Stops x ≡ step_of (first_stop true a c) → Named n pick e x
+          → Err x ≡ step_of (first_stop true a c) → Named n pick e x
       go none none z y w = absurd (let v : ◌≡◌ {A = ℕ} 0 1 = cc in omega arith)
       go none (some b) z y w =
           let v : Meets (record { 0 = b }) ≡ x = cc in

@@ -8,11 +8,12 @@ use Rattle.model.specs.Numbering.{condition_count}
 use Rattle.model.specs.Across.{most_unfolded}
 use Rattle.table.specs.Decoded.{net_of}
 use Rattle.layout.specs.Laid.{Counted}
-use Rattle.step.specs.declared.Cause.{Cause}
-use Rattle.step.specs.declared.Cause.TheVariants.{Unknown, Lacks, Meets}
-use Rattle.step.specs.declared.Step.{Step}
-use Rattle.step.specs.declared.Step.TheVariants.{Goes, Stops}
-use Rattle.step.specs.Steps.{step_of}
+use Rattle.stopping.specs.Table.{Cause}
+use Rattle.stopping.specs.declared.Cause.TheVariants.{Unknown, Lacks, Meets}
+use Rattle.stopping.specs.Table.{Step}
+use Rattle.std.specs.Prelude.{Err}
+use Rattle.stopping.specs.Causes.{goes}
+use Rattle.stopping.specs.Table.{step_of}
 use Rattle.decided.specs.Decided.{Picks, Seen, given_back, stopped_by}
 use Rattle.decided.specs.Kept.{Kept}
 
@@ -26,8 +27,8 @@ said_by (Meets b) = meets b.0
 
 -- What a step's answer says that stops it (01, Refusal numbers).
 abbrev pub stop_of : Step → Option Stop
-stop_of Goes = none
-stop_of (Stops x) = some (said_by x)
+stop_of goes = none
+stop_of (Err x) = some (said_by x)
 
 -- ---- the copy that is met
 

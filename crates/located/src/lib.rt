@@ -11,7 +11,7 @@ ghost use Rattle.table.specs.Decoded.{net_of};
 ghost use Rattle.layout.specs.Laid.{Counted};
 ghost use Rattle.tally.specs.Having.{having};
 ghost use Rattle.unfolded_step.specs.declared.Step.TheVariants.{Stops};
-ghost use Rattle.unfolded_step.specs.Steps.{step_of};
+ghost use Rattle.stopping.specs.Unfolded.{step_of};
 ghost use Rattle.decided.specs.Decided.{lacked_condition, met_condition, unfolded_stop};
 ghost use Rattle.decided.specs.Kept.{marker_at};
 ghost use Rattle.located.specs.Located.{said_by, stop_of, passed_at, Locating, Left, Named, Told};

@@ -17,21 +17,20 @@ use Rattle.model.specs.Across.{of_table, stopped, stuck, too_long, most_steps}
 use Rattle.model.proofs.Firing.{can_event, none_can, fire_none, runs_snoc}
 use Rattle.model.proofs.Replay.{stops_replay}
 use Rattle.model.proofs.Answers.{stuck_none, length_short}
-use Rattle.refusal.specs.Answer.{Judged}
-use Rattle.std.specs.Prelude.{Ok}
+use Rattle.std.specs.Prelude.{Result, Ok, Err}
+use Rattle.refusal.specs.declared.Refusal.{Refusal}
+use Rattle.refusal.specs.declared.Condition.TheVariants.{Table}
 use Rattle.refusal.specs.Answer.{refused_at}
-use Rattle.refusal.proofs.Chain.{never_both}
+use Rattle.refusal.proofs.Chain.{never_both, ok_is}
 use borrow.Author.Tests.{lt-leb}
-use Rattle.step.specs.declared.Cause.{Cause}
-use Rattle.step.specs.declared.Step.{Step}
-use Rattle.step.specs.declared.Step.TheVariants.{Goes, Stops}
+use Rattle.stopping.specs.Causes.{refusal_at}
 use Rattle.held.specs.Held.{held_in}
-use Rattle.step.specs.Tests.{moved}
-use Rattle.step.specs.Steps.{cause_of, step_of, stopped_at}
+use Rattle.step.specs.Tests.{Moves}
+use Rattle.stopping.specs.Table.{Cause, cause_of, stopped_at}
 use Rattle.game.proofs.Found.{stopped_is}
 use Rattle.model.specs.Lent.{bytes, marking}
 use Rattle.played.specs.Begun.{begun_at}
-use Rattle.played.specs.Played.{Plays}
+use Rattle.played.specs.Played.{ended, Plays}
 use Rattle.table.specs.Links.{refusing}
 use Rattle.model.proofs.Lent.{tidy_marking, marking_bytes}
 
@@ -101,34 +100,30 @@ module _ (n : Net) (m : Marking) (r : List ℕ) (k : ℕ) (held : List ℕ) (g :
 
 -- ---- the step's answer q, for the step that stands at k
 
-step_none : (o : Option Stop) (q : Step) → q ≡ step_of o → q ≡ Goes → o ≡ none
-step_none none q e h = refl
-step_none (some v) q e h = absurd (let z : ◌≡◌ {A = ℕ} 0 1 = cc in omega arith)
+module _ (n : Net) (m : Marking) (r : List ℕ) (k : ℕ) (held : List ℕ) (g : Going n m r k held) (h : k < length r) where
+  pub step_on : (new : List ℕ) → Moves (stopping n (held_in held) (get_or r k 0)) (fire n (held_in held) (get_or r k 0)) (Ok new) → Going n m r (k + 1) new
+  step_on new moves = go (stopping n (held_in held) (get_or r k 0)) refl moves
+    where
+      go : (o : Option Stop) → stopping n (held_in held) (get_or r k 0) ≡ o → Moves o (fire n (held_in held) (get_or r k 0)) (Ok new) → Going n m r (k + 1) new
+      go none e f = going_on n m r k held g h e new f
+      go (some v) e f = absurd f
 
-step_some : (o : Option Stop) (q : Step) (x : Cause) → q ≡ step_of o → q ≡ Stops x → (v : Stop) × (o ≡ some v) × (x ≡ cause_of v)
-step_some none q x e h = absurd (let z : ◌≡◌ {A = ℕ} 0 1 = cc in omega arith)
-step_some (some v) q x e h = (v, refl, cc)
-
-module _ (n : Net) (m : Marking) (r : List ℕ) (k : ℕ) (held : List ℕ) (g : Going n m r k held) (h : k < length r) (q : Step)
-    (told : q ≡ step_of (stopping n (held_in held) (get_or r k 0))) where
-  pub step_on : (new : List ℕ) → held_in new ≡ moved (stopping n (held_in held) (get_or r k 0)) (fire n (held_in held) (get_or r k 0)) (held_in held) → q ≡ Goes → Going n m r (k + 1) new
-  step_on new left e =
-      let o = step_none (stopping n (held_in held) (get_or r k 0)) q told e in
-      going_on n m r k held g h o new (left ∙ rw o)
-
-  pub step_ends : length r ≤ most_steps → (x : Cause) → q ≡ Stops x → (answer : Judged) → answer ≡ stopped_at x k → Plays n m r answer held
-  step_ends short x e answer a =
-      let (v, o, z) = step_some (stopping n (held_in held) (get_or r k 0)) q x told e in
-      let is : answer ≡ refusing (stopped of_table v k) = a ∙ ap (λ (y : Cause). stopped_at y k) z ∙ stopped_is v k in
-      record { told = is ∙ rw (length_short r short, going_stop n m r k held g h v o); reached = λ y f. never_both (sym f ∙ is) }
+  pub step_ends : length r ≤ most_steps → (x : Cause) → Moves (stopping n (held_in held) (get_or r k 0)) (fire n (held_in held) (get_or r k 0)) (Err x)
+      → (answer : Result (List ℕ) Refusal) → answer ≡ Err (refusal_at Table x k) → Plays n m r answer
+  step_ends short x moves answer a = go (stopping n (held_in held) (get_or r k 0)) refl moves
+    where
+      go : (o : Option Stop) → stopping n (held_in held) (get_or r k 0) ≡ o → Moves o (fire n (held_in held) (get_or r k 0)) (Err x) → Plays n m r answer
+      go none e f = absurd f
+      go (some v) e f =
+          let is : ended n.conditions answer ≡ refusing (stopped of_table v k) = ap (ended n.conditions) a ∙ ap (λ (y : Cause). stopped_at y k) f ∙ stopped_is v k in
+          record { told = is ∙ rw (length_short r short, going_stop n m r k held g h v e); reached = λ y f. never_both (sym f ∙ a) }
 
 -- ---- a run that is too long, and one that comes to its end
 
-pub too_long_lem : (n : Net) (m : Marking) (r held : List ℕ) → most_steps < length r → (answer : Judged) → answer ≡ refused_at 3 0 → Plays n m r answer held
+pub too_long_lem : (n : Net) (m : Marking) (r : List ℕ) → most_steps < length r → (answer : Result (List ℕ) Refusal) → answer ≡ refused_at 3 0 → Plays n m r answer
 unfolding too_long
-too_long_lem n m r held long answer a = record { told = a ∙ rw (lt-leb (length r) most_steps long); reached = λ x f. never_both (sym f ∙ a) }
+too_long_lem n m r long answer a = record { told = ap (ended n.conditions) a ∙ rw (lt-leb (length r) most_steps long); reached = λ x f. never_both (sym f ∙ a) }
 
-pub comes_to_end : (n : Net) (m : Marking) (r : List ℕ) (k : ℕ) (held : List ℕ) → Going n m r k held → length r ≤ k → length r ≤ most_steps → (x : ℕ) → x ≡ n.conditions
-    → Plays n m r (Ok x) held
-comes_to_end n m r k held g h short x e =
-    record { told = rw (length_short r short, going_free n m r k held g h) (ap Ok e); reached = λ y f. going_end n m r k held g h }
+pub comes_to_end : (n : Net) (m : Marking) (r : List ℕ) (k : ℕ) (held : List ℕ) → Going n m r k held → length r ≤ k → length r ≤ most_steps → Plays n m r (Ok held)
+comes_to_end n m r k held g h short =
+    record { told = rw (length_short r short, going_free n m r k held g h) refl; reached = λ y f. ap held_in (sym (ok_is f)) ∙ going_end n m r k held g h }

@@ -4,7 +4,8 @@ use Rattle.model.specs.Net.{Net, Marking}
 use Rattle.model.specs.Runs.{end, replay}
 use Rattle.model.specs.Across.{of_table, stuck, too_long}
 use Rattle.refusal.specs.Answer.{Judged}
-use Rattle.std.specs.Prelude.{Ok}
+use Rattle.std.specs.Prelude.{Result, Ok, Err}
+use Rattle.refusal.specs.declared.Refusal.{Refusal}
 use Rattle.records.specs.Records.{conditions}
 use Rattle.table.specs.Walk.{judge_of, offset_of}
 use Rattle.table.specs.Links.{refused_or}
@@ -25,8 +26,13 @@ pub record Playable (s : List ℕ) (n : ℕ) (offsets l : List ℕ) : Type 0 whe
   pub lents : Lent l
   pub room : (conditions s ≤ length l) × (length l ≤ 256)
 
+-- The answer of a call that goes on with so many conditions where a run came to its end.
+abbrev pub ended : ℕ → Result (List ℕ) Refusal → Judged
+ended conditions (Ok held) = Ok conditions
+ended conditions (Err refusal) = Err refusal
+
 -- A run played from a marking: the answer is 3, then what its steps say, and where it is fine the words tell the marking at the end (01,
 -- Refusal numbers).
-pub record Plays (n : Net) (m : Marking) (r : List ℕ) (answer : Judged) (held : List ℕ) : Type 0 where
-  pub told : answer ≡ refused_or (too_long r) (refused_or (stuck of_table (replay n 0 (begun_at n m) r)) (Ok n.conditions))
-  pub reached : (x : ℕ) → answer ≡ Ok x → held_in held ≡ end n m r
+pub record Plays (n : Net) (m : Marking) (r : List ℕ) (answer : Result (List ℕ) Refusal) : Type 0 where
+  pub told : ended n.conditions answer ≡ refused_or (too_long r) (refused_or (stuck of_table (replay n 0 (begun_at n m) r)) (Ok n.conditions))
+  pub reached : (held : List ℕ) → answer ≡ Ok held → held_in held ≡ end n m r

@@ -10,19 +10,13 @@ ghost use Rattle.refusal.specs.Answer.{fitting, written};
 ghost use Rattle.model.specs.Lent.{bytes, marking};
 ghost use Rattle.std.specs.Prelude.{Ok};
 ghost use Rattle.held.specs.Held.{held_in};
-ghost use Rattle.step.specs.Tests.{Keeps, moved};
-ghost use Rattle.step.specs.Steps.{step_of, stepped};
+ghost use Rattle.step.specs.Tests.{Keeps, Moves};
+ghost use Rattle.step.specs.Steps.{stepped};
+ghost use Rattle.stopping.specs.Table.{step_of};
 ghost use Rattle.played.specs.Played.{Indexed, Playable, Plays};
 
-use refusal::Refusal;
-use step::{Cause, Moved, Step};
-
-// What a run answers, and the marking that it comes to.
-#[derive(Clone, Copy)]
-pub struct Played {
-    pub answer: Result<usize, Refusal>,
-    pub held: [u64; 4],
-}
+use refusal::{Refusal, TableCondition};
+use stopping::Cause;
 
 // The offset of each event of a judged table, by its number.
 pub fn fill(table: &[u8], n: usize, offsets: &mut [usize])
@@ -62,18 +56,18 @@ pub fn step_event<'a>(
     offsets: &'a [usize],
     e: u16,
     state: &mut [u8],
-) -> Step
+) -> Result<(), Cause<TableCondition>>
     requires { Playable table.now n offsets.now state.old }
     ensures answer { result ≡ step_of (stopping (net_of table.now) (marking state.old) e) }
     ensures after { state.new ≡ stepped (stopping (net_of table.now) (marking state.old) e) (bytes (length state.old) (fire (net_of table.now) (marking state.old) e)) state.old }
 {
     if n <= (e as usize) {
-        return Step::Stops(Cause::Unknown);
+        return Err(Cause::Unknown);
     }
     step::step_at(table, offsets[e as usize], state)
 }
 
-// One step of the game on words by the number of an event.
+// One step of the game on words by the number of an event; fine: the marking after it.
 fn move_event<'a>(
     table: &'a [u8],
     n: usize,
@@ -81,56 +75,41 @@ fn move_event<'a>(
     e: u16,
     kept: [u64; 4],
     held: [u64; 4],
-) -> Moved
+) -> Result<[u64; 4], Cause<TableCondition>>
     requires { (judge_of table.now ≡ Ok n) × Indexed table.now n offsets.now × Keeps table.now kept }
-    ensures answer { result.step ≡ step_of (stopping (net_of table.now) (held_in held) e) }
-    ensures after { held_in result.held ≡ moved (stopping (net_of table.now) (held_in held) e) (fire (net_of table.now) (held_in held) e) (held_in held) }
+    ensures { Moves (stopping (net_of table.now) (held_in held) e) (fire (net_of table.now) (held_in held) e) result }
 {
     if n <= (e as usize) {
-        return Moved {
-            step: Step::Stops(Cause::Unknown),
-            held,
-        };
+        return Err(Cause::Unknown);
     }
     step::move_at(table, offsets[e as usize], kept, held)
 }
 
-// A run of a judged table played from a marking; fine: the number of conditions.
+// A run of a judged table played from a marking; fine: the marking that it comes to.
 pub fn play<'a>(
     table: &'a [u8],
     n: usize,
     offsets: &'a [usize],
     run: &'a [u16],
     start: [u64; 4],
-) -> Played
+) -> Result<[u64; 4], Refusal>
     requires { (judge_of table.now ≡ Ok n) × Indexed table.now n offsets.now }
-    ensures { Plays (net_of table.now) (held_in start) run.now result.answer result.held }
+    ensures { Plays (net_of table.now) (held_in start) run.now result }
 {
-    let mut held = start;
     if refusal::MOST_STEPS < run.len() {
-        return Played {
-            answer: refusal::refused(3, 0),
-            held,
-        };
+        return refusal::refused(3, 0);
     }
     let kept = step::kept(table);
+    let mut held = start;
     let mut k: usize = 0;
     while k < run.len() {
-        let moved = move_event(table, n, offsets, run[k], kept, held);
-        let step = moved.step;
-        if let Step::Stops(cause) = step {
-            return Played {
-                answer: step::stopped_at(cause, k),
-                held,
-            };
+        match move_event(table, n, offsets, run[k], kept, held) {
+            Ok(next) => held = next,
+            Err(cause) => return Err(cause.at(k)),
         }
-        held = moved.held;
         k = k + 1;
     }
-    Played {
-        answer: Ok(records::conditions(table) as usize),
-        held,
-    }
+    Ok(held)
 }
 
 // The end of a run over the first bytes of a lent output, where it has room.

@@ -22,12 +22,14 @@ use Rattle.model.proofs.Lent.{length_bytes, bytes_marking}
 use Rattle.table.specs.Walk.{offset_of}
 use Rattle.table.specs.Decoded.{net_of}
 use Rattle.tally.proofs.Events.{within_limits}
-use Rattle.step.specs.declared.Cause.{Cause}
-use Rattle.step.specs.declared.Step.{Step}
-use Rattle.step.specs.declared.Step.TheVariants.{Goes, Stops}
+use Rattle.stopping.specs.Table.{Cause}
+use Rattle.stopping.specs.Table.{Step}
+use Rattle.std.specs.Prelude.{Err}
+use Rattle.stopping.specs.Causes.{goes}
 use Rattle.step.specs.Lent.{Lent}
-use Rattle.step.specs.Steps.{record_net, step_of, stepped}
-use Rattle.unfolded_step.specs.declared.Cause.TheVariants.{Unknown}
+use Rattle.step.specs.Steps.{record_net, stepped}
+use Rattle.stopping.specs.Table.{step_of}
+use Rattle.stopping.specs.declared.Cause.TheVariants.{Unknown}
 use Rattle.unfolded_step.specs.declared.Step as declared
 use Rattle.unfolded_step.specs.declared.Step.TheVariants as answers
 use Rattle.unfolded_step.specs.Steps as unfolded
@@ -78,7 +80,7 @@ lent_set l e h = bytes_marking (set l e 1) (λ i p. go i (subst (λ (x : ℕ). i
 
 -- ---- what stops a step
 
-goes_none : (o : Option Stop) (r : Step) → r ≡ step_of o → r ≡ Goes → o ≡ none
+goes_none : (o : Option Stop) (r : Step) → r ≡ step_of o → r ≡ goes → o ≡ none
 goes_none none r t z = refl
 goes_none (some v) r t z = absurd (let y : ◌≡◌ {A = ℕ} 0 1 = cc in omega arith)
 
@@ -87,7 +89,7 @@ pub located_as : (n : Net) (pick : Picks) (e : ℕ) (o : Option Stop) (r : Step)
 located_as n pick e o r t = ap (λ (x : Option Stop). unfolded.step_of (unfolded_stop n pick e x)) (ap stop_of t ∙ said_back o)
 
 -- a step that is stopped leaves bytes as they were
-step_stays : (o : Option Stop) (r : Step) (x : Cause) → r ≡ step_of o → r ≡ Stops x → (new old : List ℕ) → old ≡ stepped o new old
+step_stays : (o : Option Stop) (r : Step) (x : Cause) → r ≡ step_of o → r ≡ Err x → (new old : List ℕ) → old ≡ stepped o new old
 step_stays none r x t z new old = absurd (let y : ◌≡◌ {A = ℕ} 0 1 = cc in omega arith)
 step_stays (some v) r x t z new old = refl
 
@@ -105,13 +107,13 @@ module _ (s : List ℕ) (at e : ℕ) (state seen places : List ℕ) (r : Step) (
       × ((new ≡ stepped (stops_at s e state seen places) (bytes (length state) (fire (record_net s at) (marking state) 0)) state)
       × (noted ≡ stepped (stops_at s e state seen places) (set seen e 1) seen))
 
-  pub event_goes : r ≡ Goes → stops_at s e state seen places ≡ none
+  pub event_goes : r ≡ goes → stops_at s e state seen places ≡ none
   event_goes z = goes_none (stops_at s e state seen places) r told z
 
-  pub event_stopped : (x : Cause) → r ≡ Stops x → after_step state seen
+  pub event_stopped : (x : Cause) → r ≡ Err x → after_step state seen
   event_stopped x z = (told, (step_stays (stops_at s e state seen places) r x told z _ state, step_stays (stops_at s e state seen places) r x told z _ seen))
 
-  pub event_fired : r ≡ Goes → (new : List ℕ) → new ≡ bytes (length state) (fire (record_net s at) (marking state) 0) → after_step new (set seen e 1)
+  pub event_fired : r ≡ goes → (new : List ℕ) → new ≡ bytes (length state) (fire (record_net s at) (marking state) 0) → after_step new (set seen e 1)
   event_fired z new y = (told, (y ∙ step_moves (stops_at s e state seen places) (event_goes z) _ state, step_moves (stops_at s e state seen places) (event_goes z) _ seen))
 
 module _ (s offsets ms us before begun w : List ℕ) (k : ℕ) (state seen places kept : List ℕ) (q : Underway s offsets ms us before begun w k state seen places kept)

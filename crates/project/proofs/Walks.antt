@@ -30,10 +30,11 @@ use Rattle.table.specs.Links.{refusing}
 use Rattle.step.specs.declared.Step.TheVariants as answers
 use Rattle.step.specs.Steps as played
 use Rattle.step.specs.Steps.{set_all, record_net, stepped}
-use Rattle.unfolded_step.specs.declared.Cause.{Cause}
-use Rattle.unfolded_step.specs.declared.Step.{Step}
-use Rattle.unfolded_step.specs.declared.Step.TheVariants.{Goes, Stops}
-use Rattle.unfolded_step.specs.Steps.{cause_of, step_of, stopped_at}
+use Rattle.stopping.specs.Unfolded.{Cause}
+use Rattle.stopping.specs.Unfolded.{Step}
+use Rattle.std.specs.Prelude.{Err}
+use Rattle.stopping.specs.Causes.{goes}
+use Rattle.stopping.specs.Unfolded.{cause_of, step_of, stopped_at}
 use Rattle.step.proofs.Bytes.{lent_bytes}
 use Rattle.step.proofs.Firing.{step_written}
 use Rattle.decided.specs.Kept.{Kept}
@@ -79,7 +80,7 @@ walked_start s events j w state seen places kept short is_state is_seen is_place
 
 -- ---- the end
 
-some_stop : (o : Option Stop) (x : Cause) → step_of o ≡ Stops x → (v : Stop) × (o ≡ some v) × (x ≡ cause_of v)
+some_stop : (o : Option Stop) (x : Cause) → step_of o ≡ Err x → (v : Stop) × (o ≡ some v) × (x ≡ cause_of v)
 some_stop none x e = absurd (let z : ◌≡◌ {A = ℕ} 0 1 = cc in omega arith)
 some_stop (some v) x e = (v, refl, cc)
 
@@ -91,7 +92,7 @@ stopped_is (meets b) k = refl
 
 module _ (n : Net) (w : List ℕ) (k : ℕ) (state seen places kept : List ℕ) (c : Walked n w k state seen places kept) where
   -- a step is stopped
-  stops_at : k < length w → (x : Cause) → step_of (stopping (basic n) (unfolded_at n w k) (get_or w k 0)) ≡ Stops x
+  stops_at : k < length w → (x : Cause) → step_of (stopping (basic n) (unfolded_at n w k) (get_or w k 0)) ≡ Err x
       → (answer : Judged) → answer ≡ stopped_at x k → (l m : List ℕ) → Replayed n w answer l m
   unfolding opening
   stops_at h x o answer a l m =
@@ -114,7 +115,7 @@ module _ (n : Net) (w : List ℕ) (k : ℕ) (state seen places kept : List ℕ) 
         occurred = λ y f. never_both (sym f ∙ a);
       }
 
-  pub walk_stops : k < length w → (r : Step) (a b d e : List ℕ) → Stepped n w k r a b d e → (x : Cause) → r ≡ Stops x
+  pub walk_stops : k < length w → (r : Step) (a b d e : List ℕ) → Stepped n w k r a b d e → (x : Cause) → r ≡ Err x
       → (answer : Judged) → answer ≡ stopped_at x k → (l m : List ℕ) → Replayed n w answer l m
   walk_stops h r a b d e o x z answer t l m = stops_at h x (subst (λ (y : Step). Stepped n w k y a b d e) z o) answer t l m
 
@@ -133,7 +134,7 @@ module _ (n : Net) (w : List ℕ) (k : ℕ) (state seen places kept : List ℕ) 
       }
 
 -- a step goes
-pub walk_on : (n : Net) (w : List ℕ) (k : ℕ) (r : Step) (a b d e : List ℕ) → Stepped n w k r a b d e → r ≡ Goes → Walked n w (k + 1) a b d e
+pub walk_on : (n : Net) (w : List ℕ) (k : ℕ) (r : Step) (a b d e : List ℕ) → Stepped n w k r a b d e → r ≡ goes → Walked n w (k + 1) a b d e
 walk_on n w k r a b d e o z = subst (λ (y : Step). Stepped n w k y a b d e) z o
 
 pub few_judged : (s : List ℕ) (events : ℕ) → judge_of s ≡ Ok events → events ≤ 256

@@ -15,9 +15,10 @@ use Rattle.table.specs.Links.{refused_or}
 use Rattle.layout.specs.Laid.{Sums, Counted, Marked}
 use Rattle.step.specs.Lent.{Lent}
 use Rattle.step.specs.Steps.{record_net}
-use Rattle.unfolded_step.specs.declared.Step.{Step}
-use Rattle.unfolded_step.specs.declared.Step.TheVariants.{Goes, Stops}
-use Rattle.unfolded_step.specs.Steps.{step_of}
+use Rattle.stopping.specs.Unfolded.{Step}
+use Rattle.std.specs.Prelude.{Err}
+use Rattle.stopping.specs.Causes.{goes}
+use Rattle.stopping.specs.Unfolded.{step_of}
 use Rattle.played.specs.Played.{Indexed}
 use Rattle.tally.specs.Having.{Tally}
 use Rattle.across.specs.Prepared.{Between}
@@ -76,8 +77,8 @@ pub record Coloured (n : Net) (j e : ℕ) (places kept : List ℕ) : Type 0 wher
 -- A step answers that it goes, and then the bytes are one step on, or with what stops it in the unfolded net (01, Refusal numbers; 02,
 -- No. 2).
 abbrev pub Stepped : Net → List ℕ → ℕ → Step → List ℕ → List ℕ → List ℕ → List ℕ → Type 0
-Stepped n w k Goes state seen places kept = Walked n w (k + 1) state seen places kept
-Stepped n w k (Stops x) state seen places kept = step_of (stopping (basic n) (unfolded_at n w k) (get_or w k 0)) ≡ Stops x
+Stepped n w k goes state seen places kept = Walked n w (k + 1) state seen places kept
+Stepped n w k (Err x) state seen places kept = step_of (stopping (basic n) (unfolded_at n w k) (get_or w k 0)) ≡ Err x
 
 -- An event can be fired on bytes: nothing stops the one whose record stands at an offset.
 pub record Fires (s : List ℕ) (at : ℕ) (state : List ℕ) : Type 0 where

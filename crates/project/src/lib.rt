@@ -8,7 +8,7 @@ ghost use Rattle.refusal.specs.Answer.{value_of, fitting};
 ghost use Rattle.table.specs.Decoded.{net_of};
 ghost use Rattle.step.specs.Steps as played;
 ghost use Rattle.step.specs.Steps.{record_net, stepped};
-ghost use Rattle.unfolded_step.specs.Steps.{step_of};
+ghost use Rattle.stopping.specs.Unfolded.{step_of};
 ghost use Rattle.decided.specs.Decided.{unfolded_stop};
 ghost use Rattle.decided.specs.Kept.{marker_at, Kept};
 ghost use Rattle.project.specs.Walked.{Numbered, Underway, Coloured, Stepped, Fires, stops_at, Trying, Tried, Replayed, Replayable, Reading, Read};

@@ -15,13 +15,15 @@ use Rattle.held.specs.Held.{held_in}
 use Rattle.model.specs.Across.{stuck, too_long, unfolding_refused}
 use Rattle.model.specs.Across as model
 use Rattle.table.specs.Decoded.{net_of}
-use Rattle.step.specs.declared.Cause.{Cause}
-use Rattle.step.specs.declared.Cause.TheVariants.{Unknown, Lacks, Meets}
-use Rattle.step.specs.declared.Step.{Step}
-use Rattle.step.specs.declared.Step.TheVariants.{Goes, Stops}
-use Rattle.step.specs.Steps.{record_net, step_of, stepped, cause_place, stopped_at, answered_of}
+use Rattle.stopping.specs.Table.{Cause}
+use Rattle.stopping.specs.declared.Cause.TheVariants.{Unknown, Lacks, Meets}
+use Rattle.stopping.specs.Table.{Step}
+use Rattle.std.specs.Prelude.{Err}
+use Rattle.stopping.specs.Causes.{goes}
+use Rattle.step.specs.Steps.{record_net, stepped}
+use Rattle.stopping.specs.Table.{step_of, cause_place, stopped_at, answered_of}
 use Rattle.unfolded_step.specs.declared.Cause as unfolded-cause
-use Rattle.unfolded_step.specs.declared.Cause.TheVariants as unfolded-causes
+use Rattle.stopping.specs.declared.Cause.TheVariants as unfolded-causes
 use Rattle.unfolded_step.specs.declared.Step as unfolded-step
 use Rattle.unfolded_step.specs.declared.Step.TheVariants as unfolded-steps
 use Rattle.unfolded_step.specs.Steps as unfolded
@@ -80,8 +82,8 @@ pub answered_refused : (κs : _) (a : _) (r : _) (x : _) → answered.Learnt κs
 answered_refused κs a r x h = rw h (go a.0 a.1.0)
   where
     go : (step : Step) (value : ℕ) → T (listed of_step (answered_of step value))
-    go Goes value = tt
-    go (Stops cause) value = cause_listed cause (cause_place cause)
+    go goes value = tt
+    go (Err cause) value = cause_listed cause (cause_place cause)
 
 unfolded_cause_listed : (cause : unfolded-cause.Cause) (place : ℕ) → T (listed of_step (unfolded.stopped_at cause place))
 unfolded_cause_listed unfolded-causes.Unknown place = tt
@@ -99,14 +101,14 @@ unfolded_answered_refused κs a r x h = rw h (go a.0 a.1.0)
     go (unfolded-steps.Stops cause) value = unfolded_cause_listed cause (unfolded.cause_place cause)
 
 -- a step that is stopped leaves what it was lent
-stepped_kept : (o : Option Stop) (r : Step) (c : Cause) (new old out : List ℕ) → r ≡ step_of o → out ≡ stepped o new old → r ≡ Stops c → out ≡ old
-stepped_kept none r c new old out e f g = absurd (let z : Goes ≡ Stops c = sym e ∙ g in let y : ◌≡◌ {A = ℕ} 0 1 = cc in omega arith)
+stepped_kept : (o : Option Stop) (r : Step) (c : Cause) (new old out : List ℕ) → r ≡ step_of o → out ≡ stepped o new old → r ≡ Err c → out ≡ old
+stepped_kept none r c new old out e f g = absurd (let z : goes ≡ Err c = sym e ∙ g in let y : ◌≡◌ {A = ℕ} 0 1 = cc in omega arith)
 stepped_kept (some v) r c new old out e f g = f
 
-pub step_at_refused : (κs : _) (a : _) (r : _) (x : _) → step_at.Learnt κs a r x → (c : Cause) → r ≡ Stops c → x.1.1.0.now ≡ a.1.1.0.now
+pub step_at_refused : (κs : _) (a : _) (r : _) (x : _) → step_at.Learnt κs a r x → (c : Cause) → r ≡ Err c → x.1.1.0.now ≡ a.1.1.0.now
 step_at_refused κs a r x h c g = stepped_kept (stopping (record_net a.0.now a.1.0) (marking a.1.1.0.now) 0) r c _ a.1.1.0.now x.1.1.0.now h.0 h.1 g
 
-pub step_event_refused : (κs : _) (a : _) (r : _) (x : _) → step_event.Learnt κs a r x → (c : Cause) → r ≡ Stops c → x.1.1.1.1.0.now ≡ a.1.1.1.1.0.now
+pub step_event_refused : (κs : _) (a : _) (r : _) (x : _) → step_event.Learnt κs a r x → (c : Cause) → r ≡ Err c → x.1.1.1.1.0.now ≡ a.1.1.1.1.0.now
 step_event_refused κs a r x h c g = stepped_kept (stopping (net_of a.0.now) (marking a.1.1.1.1.0.now) a.1.1.1.0) r c _ a.1.1.1.1.0.now x.1.1.1.1.0.now h.0 h.1 g
 
 pub play_refused : (κs : _) (a : _) (r : _) (x : _) → play.Learnt κs a r x → T (listed of_steps r.answer)

@@ -10,7 +10,7 @@ use lib.Seq.{take-append_seam}
 use borrow.Author.Tests.{le-leb, lt-leb, leb-true}
 use Rattle.refusal.specs.declared.Refusal.{Refusal}
 use Rattle.refusal.specs.Answer.{Judged}
-use Rattle.std.specs.Prelude.{Ok, Err}
+use Rattle.std.specs.Prelude.{Result, Ok, Err}
 use Rattle.refusal.specs.Answer.{refused_at, need, and_then, fitting, written}
 
 -- An answer r that is refused is passed up as it is.
@@ -22,8 +22,12 @@ pub goes_on : {x r : Judged} {n : ℕ} (f : ℕ → Judged) → r ≡ x → r �
 goes_on f e t = simp (sym e ∙ t)
 
 -- No answer is both fine and refused.
-pub never_both : {A : Type 0} {n : ℕ} {refusal : Refusal} → Ok n ≡ Err refusal → A
+pub never_both : {A B : Type 0} {x : B} {refusal : Refusal} → Ok x ≡ Err refusal → A
 never_both e = let z : ◌≡◌ {A = ℕ} 0 1 = cc in absurd (omega arith)
+
+-- Two fine answers that are the same have the same value.
+pub ok_is : {B : Type 0} {x y : B} → ◌≡◌ {A = Result B Refusal} (Ok x) (Ok y) → x ≡ y
+ok_is e = cc
 
 -- A test that holds is passed; one that fails is refused.
 pub need_passes : {b : Bool} (number place : ℕ) {rest : Judged} → b ≡ true → need b number place rest ≡ rest

@@ -15,11 +15,11 @@ abbrev pub Judged : Type 0
 Judged = Result ℕ Refusal
 
 -- A refusal as an answer, with what stopped a step (01, Refusal numbers; 02, No. 2).
-abbrev pub refused_by : ℕ → ℕ → By → Judged
+abbrev pub refused_by : {A : Type 0} → ℕ → ℕ → By → Result A Refusal
 refused_by number place by = Err (record { number = number; place = place; by = by })
 
 -- A refusal that no condition caused (01, Refusal numbers).
-abbrev pub refused_at : ℕ → ℕ → Judged
+abbrev pub refused_at : {A : Type 0} → ℕ → ℕ → Result A Refusal
 refused_at number place = refused_by number place None
 
 -- The number of an answer, 0 where nothing is refused (01, Refusal numbers, first column).

@@ -61,14 +61,14 @@ pub enum Marker {
 }
 
 // The refusal as an answer, with no condition.
-pub fn refused(number: u8, place: usize) -> Result<usize, Refusal>
+pub fn refused<T>(number: u8, place: usize) -> Result<T, Refusal>
     ensures { result ≡ refused_at number place }
 {
     refused_by(number, place, None)
 }
 
 // The refusal as an answer, with what stopped a step.
-pub fn refused_by(number: u8, place: usize, by: Option<Condition>) -> Result<usize, Refusal>
+pub fn refused_by<T>(number: u8, place: usize, by: Option<Condition>) -> Result<T, Refusal>
     ensures { result ≡ refused_by number place by }
 {
     Err(Refusal { number, place, by })

@@ -7,10 +7,8 @@ use Rattle.model.specs.Net.{Net, Marking, begin}
 use Rattle.model.specs.Runs.{end, opening, replay}
 use Rattle.model.specs.Across.{of_table, stuck, too_long}
 use Rattle.refusal.specs.declared.Refusal as table
-use Rattle.refusal.specs.Answer.{Judged}
-use Rattle.std.specs.Prelude.{Ok, Err}
-use Rattle.refusal.specs.Answer.{fitting, written}
-use Rattle.refusal.proofs.Chain.{written_refused}
+use Rattle.std.specs.Prelude.{Result, Ok, Err}
+use Rattle.refusal.specs.Answer.{fitting}
 use Rattle.table.specs.Walk.{judge_of}
 use Rattle.table.specs.Decoded.{net_of}
 use Rattle.model.specs.Lent.{bytes, marking}
@@ -18,46 +16,24 @@ use Rattle.held.specs.Held.{held_in}
 use Rattle.game.specs.Calls.{on_marking}
 use Rattle.played.specs.Begun.{begun_at}
 use Rattle.replay.specs.Calls.{played_of, replay_of, replay_from_of}
-use Rattle.played.specs.Played.{Plays}
+use Rattle.played.specs.Played.{ended, Plays}
 use Rattle.table.proofs.Links.{links_refused, links_fine}
 use Rattle.game.proofs.Marked.{on_then}
 
 -- ---- a run that was played, and its end with room for so many bytes
 
-module _ (n : Net) (m : Marking) (r : List ℕ) (answer : Judged) (held : List ℕ) (p : Plays n m r answer held) where
-  tail_refused : (room : ℕ) (x : table.Refusal) → answer ≡ Err x → answer ≡ played_of n (begun_at n m) r room
+module _ (n : Net) (m : Marking) (r : List ℕ) (answer : Result (List ℕ) table.Refusal) (p : Plays n m r answer) where
+  pub tail_refused : (room : ℕ) (x : table.Refusal) → answer ≡ Err x → Err x ≡ played_of n (begun_at n m) r room
   unfolding played_of
   tail_refused room x e =
-      p.told
-      ∙ links_refused (too_long r) (stuck of_table (replay n 0 (begun_at n m) r)) n.conditions (fitting n.conditions room) x (sym p.told ∙ e)
+      let told = sym p.told ∙ ap (ended n.conditions) e in
+      sym told ∙ links_refused (too_long r) (stuck of_table (replay n 0 (begun_at n m) r)) n.conditions (fitting n.conditions room) x told
 
-  module _ (count : ℕ) (e : answer ≡ Ok count) where
-    count_is : count ≡ n.conditions
-    count_is = (links_fine (too_long r) (stuck of_table (replay n 0 (begun_at n m) r)) n.conditions count (Ok 0) (sym p.told ∙ e)).0
-
-    tail_fine : (room : ℕ) → fitting count room ≡ played_of n (begun_at n m) r room
-    unfolding played_of
-    tail_fine room =
-        ap (λ (c : ℕ). fitting c room) count_is
-        ∙ (links_fine (too_long r) (stuck of_table (replay n 0 (begun_at n m) r)) n.conditions count (fitting n.conditions room) (sym p.told ∙ e)).1
-
-    tail_left : bytes count (held_in held) ≡ bytes n.conditions (end n m r)
-    tail_left = ap₂ bytes count_is (p.reached count e)
-
--- ---- a call that goes on to such a run, and its lent output
-
-module _ (n : Net) (m : Marking) (r : List ℕ) (answer : Judged) (held : List ℕ) (p : Plays n m r answer held) (out : List ℕ) (call : Judged)
-    (is : call ≡ played_of n (begun_at n m) r (length out)) where
-  pub call_refused : (x : table.Refusal) → answer ≡ Err x → (answer ≡ call) × (out ≡ written call (bytes n.conditions (end n m r)) out)
-  call_refused x e =
-      let same = tail_refused n m r answer held p (length out) x e ∙ sym is in
-      (same, written_refused call x (bytes n.conditions (end n m r)) out (sym same ∙ e))
-
-  pub call_fine : (count : ℕ) → answer ≡ Ok count → (final : Judged) (after : List ℕ) → final ≡ fitting count (length out)
-      → after ≡ written final (bytes count (held_in held)) out → (final ≡ call) × (after ≡ written call (bytes n.conditions (end n m r)) out)
-  call_fine count e final after f g =
-      let same = f ∙ tail_fine n m r answer held p count e (length out) ∙ sym is in
-      (same, g ∙ ap (λ (x : Judged). written x (bytes count (held_in held)) out) same ∙ ap (λ (x : List ℕ). written call x out) (tail_left n m r answer held p count e))
+  pub tail_fine : (held : List ℕ) → answer ≡ Ok held → (room : ℕ) → fitting n.conditions room ≡ played_of n (begun_at n m) r room
+  unfolding played_of
+  tail_fine held e room =
+      let told = sym p.told ∙ ap (ended n.conditions) e in
+      (links_fine (too_long r) (stuck of_table (replay n 0 (begun_at n m) r)) n.conditions n.conditions (fitting n.conditions room) told).1
 
 -- ---- the calls, once the table and the lent marking are judged
 

@@ -13,12 +13,14 @@ use Rattle.lists.specs.Lists.{mem}
 use Rattle.model.specs.Net.{fire, Stop, stopping}
 use Rattle.words.specs.Words.{words}
 use Rattle.records.specs.Records.{flags, pre_part, post_part}
-use Rattle.step.specs.declared.Step.{Step}
-use Rattle.step.specs.declared.Step.TheVariants.{Goes, Stops}
-use Rattle.step.specs.declared.Cause.{Cause}
+use Rattle.stopping.specs.Table.{Step}
+use Rattle.std.specs.Prelude.{Err}
+use Rattle.stopping.specs.Causes.{goes}
+use Rattle.stopping.specs.Table.{Cause}
 use Rattle.model.specs.Lent.{bit, bytes, marking}
 use Rattle.step.specs.Lent.{Lent}
-use Rattle.step.specs.Steps.{set_one, set_all, lists_net, record_net, step_of, stepped}
+use Rattle.step.specs.Steps.{set_one, set_all, lists_net, record_net, stepped}
+use Rattle.stopping.specs.Table.{step_of}
 use Rattle.model.proofs.Lent.{bytes_are}
 use Rattle.step.proofs.Bytes.{lent_at}
 
@@ -112,18 +114,18 @@ module _ (s l : List ℕ) (at : ℕ) (r : Step) (told : r ≡ step_of (stopping 
   abbrev after : List ℕ
   after = stepped (stopping (record_net s at) (marking l) 0) (bytes (length l) (fire (record_net s at) (marking l) 0)) l
 
-  pub step_kept : (x : Cause) → r ≡ Stops x → l ≡ after
+  pub step_kept : (x : Cause) → r ≡ Err x → l ≡ after
   step_kept x h = go (stopping (record_net s at) (marking l) 0) (sym told ∙ h)
     where
-      go : (o : Option Stop) → step_of o ≡ Stops x → l ≡ stepped o (bytes (length l) (fire (record_net s at) (marking l) 0)) l
+      go : (o : Option Stop) → step_of o ≡ Err x → l ≡ stepped o (bytes (length l) (fire (record_net s at) (marking l) 0)) l
       go none e = absurd (let z : ◌≡◌ {A = ℕ} 0 1 = cc in omega arith)
       go (some v) e = refl
 
-  pub step_written : r ≡ Goes → Lent l → (f pre post : List ℕ) → f ≡ flags s → pre ≡ pre_part s at → post ≡ post_part s at
+  pub step_written : r ≡ goes → Lent l → (f pre post : List ℕ) → f ≡ flags s → pre ≡ pre_part s at → post ≡ post_part s at
       → set_all [] 1 (words post) (set_all f 0 (words pre) l) ≡ after
   step_written h lent f pre post is_f is_pre is_post = rw (is_f, is_pre, is_post) (fired s l at lent) ∙ go (stopping (record_net s at) (marking l) 0) (sym told ∙ h)
     where
-      go : (o : Option Stop) → step_of o ≡ Goes
+      go : (o : Option Stop) → step_of o ≡ goes
           → bytes (length l) (fire (record_net s at) (marking l) 0) ≡ stepped o (bytes (length l) (fire (record_net s at) (marking l) 0)) l
       go none e = refl
       go (some v) e = absurd (let z : ◌≡◌ {A = ℕ} 0 1 = cc in omega arith)

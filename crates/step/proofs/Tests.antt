@@ -25,12 +25,14 @@ use Rattle.words.specs.Words.{words}
 use Rattle.records.specs.Records.{old_rule, flags, pre_part, post_part}
 use Rattle.held.specs.Held.{held_in, tabled}
 use Rattle.held.proofs.Words.{held_past}
-use Rattle.step.specs.declared.Step.{Step}
-use Rattle.step.specs.declared.Step.TheVariants.{Goes, Stops}
-use Rattle.step.specs.declared.Cause.{Cause}
-use Rattle.step.specs.declared.Failing.{Failing}
-use Rattle.step.specs.Tests.{lowest, told_of, Listed, Recorded, Keeps, moved}
-use Rattle.step.specs.Steps.{failing_of, lists_net, record_net, step_of}
+use Rattle.stopping.specs.Table.{Step}
+use Rattle.std.specs.Prelude.{Ok, Err}
+use Rattle.stopping.specs.Causes.{goes}
+use Rattle.stopping.specs.Table.{Cause}
+use Rattle.step.specs.Steps.{Failing}
+use Rattle.step.specs.Tests.{lowest, told_of, Listed, Recorded, Keeps, Moves}
+use Rattle.step.specs.Steps.{failing_of, lists_net, record_net}
+use Rattle.stopping.specs.Table.{step_of}
 
 -- ---- the lowest condition that holds, looked for from 0 on
 
@@ -220,16 +222,16 @@ module _ (s : List ℕ) (at : ℕ) (p q : List ℕ) (is_p : p ≡ pre_part s at)
 
 -- what a step leaves, by its answer
 module _ (n : Net) (m : Marking) (r : Step) (told : r ≡ step_of (stopping n m 0)) where
-  pub move_kept : (x : Cause) → r ≡ Stops x → m ≡ moved (stopping n m 0) (fire n m 0) m
-  move_kept x e = go (stopping n m 0) (sym told ∙ e)
+  pub move_stops : (x : Cause) → r ≡ Err x → Moves (stopping n m 0) (fire n m 0) (Err x)
+  move_stops x e = go (stopping n m 0) (sym told ∙ e)
     where
-      go : (o : Option Stop) → step_of o ≡ Stops x → m ≡ moved o (fire n m 0) m
+      go : (o : Option Stop) → step_of o ≡ Err x → Moves o (fire n m 0) (Err x)
       go none e = absurd (let z : ◌≡◌ {A = ℕ} 0 1 = cc in omega arith)
-      go (some v) e = refl
+      go (some v) e = cc
 
-  pub move_fired : r ≡ Goes → fire n m 0 ≡ moved (stopping n m 0) (fire n m 0) m
-  move_fired e = go (stopping n m 0) (sym told ∙ e)
+  pub move_goes : r ≡ goes → (held : List ℕ) → held_in held ≡ fire n m 0 → Moves (stopping n m 0) (fire n m 0) (Ok held)
+  move_goes e held h = go (stopping n m 0) (sym told ∙ e)
     where
-      go : (o : Option Stop) → step_of o ≡ Goes → fire n m 0 ≡ moved o (fire n m 0) m
-      go none e = refl
+      go : (o : Option Stop) → step_of o ≡ goes → Moves o (fire n m 0) (Ok held)
+      go none e = h
       go (some v) e = absurd (let z : ◌≡◌ {A = ℕ} 0 1 = cc in omega arith)

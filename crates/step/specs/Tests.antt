@@ -1,5 +1,5 @@
 -- A step on words: what stops it, what it needs to know of a table, and what it leaves.
-use Rattle.std.specs.Prelude.{◌≡◌, not, List, ℕ, T}
+use Rattle.std.specs.Prelude.{◌≡◌, not, List, ℕ, T, Result, Ok, Err}
 use Rattle.std.proofs.Math.Option.{Option, none, some}
 use Rattle.lists.specs.Lists.{fits, failing, count}
 use Rattle.model.specs.Net.{Marking, Stop}
@@ -7,11 +7,13 @@ use Rattle.model.specs.Lent.{marking}
 use Rattle.words.specs.Words.{words}
 use Rattle.records.specs.Records.{flags, pre_part, post_part}
 use Rattle.held.specs.Held.{held_in, tabled}
-use Rattle.step.specs.declared.Cause.TheVariants.{Lacks, Meets}
-use Rattle.step.specs.declared.Step.{Step}
-use Rattle.step.specs.declared.Step.TheVariants.{Goes, Stops}
-use Rattle.step.specs.declared.Failing.{Failing}
-use Rattle.step.specs.declared.Failing.TheVariants.{Nothing, At}
+use Rattle.stopping.specs.declared.Cause.TheVariants.{Lacks, Meets}
+use Rattle.stopping.specs.Table.{Step}
+use Rattle.std.specs.Prelude.{Err}
+use Rattle.stopping.specs.Causes.{goes}
+use Rattle.stopping.specs.Table.{Cause, cause_of}
+use Rattle.step.specs.Steps.{Failing}
+use Rattle.std.specs.Prelude.{None, Some}
 
 -- The lowest of the first n conditions that holds, if one does.
 unfoldable pub lowest : ℕ → Marking → Option ℕ
@@ -19,9 +21,9 @@ lowest n m = failing (λ b. not (m b)) (count 0 n)
 
 -- What stops a step, by the first precondition that is lacking and the first postcondition in contact (01, Refusal numbers).
 abbrev pub told_of : Failing → Failing → Step
-told_of (At b) y = Stops (Lacks b)
-told_of Nothing (At b) = Stops (Meets b)
-told_of Nothing Nothing = Goes
+told_of (Some b) y = Err (Lacks b)
+told_of None (Some b) = Err (Meets b)
+told_of None None = goes
 
 -- Two lists ascend, and name conditions that a table can have, as refusal 5 sees to (01, Refusal numbers).
 pub record Listed (pre post : List ℕ) : Type 0 where
@@ -40,3 +42,10 @@ Keeps s kept = held_in kept ≡ tabled (marking (flags s))
 abbrev pub moved : Option Stop → Marking → Marking → Marking
 moved none new old = new
 moved (some v) new old = old
+
+-- A step answers with words that tell the new marking, or with what stops it (01, Refusal numbers).
+abbrev pub Moves : Option Stop → Marking → Result (List ℕ) Cause → Type 0
+Moves none new (Ok held) = held_in held ≡ new
+Moves none new (Err cause) = ⊥
+Moves (some v) new (Ok held) = ⊥
+Moves (some v) new (Err cause) = cause ≡ cause_of v

@@ -10,39 +10,12 @@ ghost use Rattle.model.specs.Net.{stopping, fire};
 ghost use Rattle.model.specs.Lent.{bytes, marking};
 ghost use Rattle.held.specs.Held.{held_in, tabled};
 ghost use Rattle.step.specs.Lent.{Lent};
-ghost use Rattle.step.specs.Tests.{lowest, told_of, Listed, Recorded, Keeps, moved};
-ghost use Rattle.step.specs.Steps.{failing_of, set_one, set_all, lists_net, record_net, cause_number, cause_by, cause_place, stopped_at, step_of, stepped, answered_of};
+ghost use Rattle.step.specs.Tests.{lowest, told_of, Listed, Recorded, Keeps, Moves};
+ghost use Rattle.step.specs.Steps.{failing_of, set_one, set_all, lists_net, record_net, stepped};
+ghost use Rattle.stopping.specs.Table.{step_of};
 
-use refusal::{Condition, Refusal, TableCondition};
-
-// What stops a step: there is no such event, or the lowest condition that is lacking or in contact.
-#[derive(Clone, Copy)]
-pub enum Cause {
-    Unknown,
-    Lacks(TableCondition),
-    Meets(TableCondition),
-}
-
-// What one step answers: it goes, or what stops it.
-#[derive(Clone, Copy)]
-pub enum Step {
-    Goes,
-    Stops(Cause),
-}
-
-// The first condition of a list that fails its test.
-#[derive(Clone, Copy)]
-pub enum Failing {
-    Nothing,
-    At(TableCondition),
-}
-
-// What one step on words answers, and the marking after it.
-#[derive(Clone, Copy)]
-pub struct Moved {
-    pub step: Step,
-    pub held: [u64; 4],
-}
+use refusal::TableCondition;
+use stopping::Cause;
 
 // One condition set to a byte, unless it is kept.
 fn set_one(kept: &[u8], b: usize, value: u8, state: &mut [u8])
@@ -75,20 +48,20 @@ fn together(held: [u64; 4]) -> u64
 }
 
 // The lowest condition of words.
-fn first(held: [u64; 4]) -> Failing
+fn first(held: [u64; 4]) -> Option<TableCondition>
     ensures { result ≡ failing_of (lowest 256 (held_in held)) }
 {
     if together(held) == 0 {
-        return Failing::Nothing;
+        return None;
     }
     let mut b: usize = 0;
     while b < 256 {
         if held::holds(held, b) {
-            return Failing::At(TableCondition(b as u16));
+            return Some(TableCondition(b as u16));
         }
         b = b + 1;
     }
-    Failing::Nothing
+    None
 }
 
 // The postconditions that hold and, but under the old rule, are no preconditions.
@@ -103,16 +76,19 @@ fn touched(pre: [u64; 4], post: [u64; 4], held: [u64; 4], old: bool) -> [u64; 4]
 }
 
 // What stops a step, by the first precondition that is lacking and the first postcondition in contact.
-fn told(lacking: Failing, meeting: Failing) -> Step
+fn told(
+    lacking: Option<TableCondition>,
+    meeting: Option<TableCondition>,
+) -> Result<(), Cause<TableCondition>>
     ensures { result ≡ told_of lacking meeting }
 {
-    if let Failing::At(b) = lacking {
-        return Step::Stops(Cause::Lacks(b));
+    if let Some(b) = lacking {
+        return Err(Cause::Lacks(b));
     }
-    if let Failing::At(b) = meeting {
-        return Step::Stops(Cause::Meets(b));
+    if let Some(b) = meeting {
+        return Err(Cause::Meets(b));
     }
-    Step::Goes
+    Ok(())
 }
 
 // The persistent conditions of a table, which no step takes.
@@ -123,17 +99,17 @@ pub fn kept(table: &[u8]) -> [u64; 4]
 }
 
 // The lowest of conditions that is not persistent; which are is gathered only where there are some.
-fn ordinary(table: &[u8], held: [u64; 4]) -> Failing
+fn ordinary(table: &[u8], held: [u64; 4]) -> Option<TableCondition>
     ensures { result ≡ failing_of (lowest 256 (λ b. held_in held b && not (tabled (marking (flags table.now)) b))) }
 {
     if together(held) == 0 {
-        return Failing::Nothing;
+        return None;
     }
     first(held::without(held, kept(table)))
 }
 
 // What stops an event with these two lists, if anything does.
-fn test<'a>(table: &'a [u8], pre: &'a [u8], post: &'a [u8], state: &'a [u8]) -> Step
+fn test<'a>(table: &'a [u8], pre: &'a [u8], post: &'a [u8], state: &'a [u8]) -> Result<(), Cause<TableCondition>>
     requires { Listed pre.now post.now × (length state.now ≤ 256) }
     ensures { result ≡ step_of (stopping (lists_net table.now pre.now post.now) (marking state.now) 0) }
 {
@@ -145,7 +121,7 @@ fn test<'a>(table: &'a [u8], pre: &'a [u8], post: &'a [u8], state: &'a [u8]) -> 
 }
 
 // What stops the event whose record stands at an offset, if anything does.
-pub fn test_at<'a>(table: &'a [u8], at: usize, state: &'a [u8]) -> Step
+pub fn test_at<'a>(table: &'a [u8], at: usize, state: &'a [u8]) -> Result<(), Cause<TableCondition>>
     requires { Recorded table.now at × (length state.now ≤ 256) }
     ensures { result ≡ step_of (stopping (record_net table.now at) (marking state.now) 0) }
 {
@@ -154,88 +130,34 @@ pub fn test_at<'a>(table: &'a [u8], at: usize, state: &'a [u8]) -> Step
 }
 
 // One step of the game on lent bytes: the event whose record stands at an offset is tested, then fired.
-pub fn step_at(table: &[u8], at: usize, state: &mut [u8]) -> Step
+pub fn step_at(table: &[u8], at: usize, state: &mut [u8]) -> Result<(), Cause<TableCondition>>
     requires { Recorded table.now at × Lent state.old × (length state.old ≤ 256) }
     ensures answer { result ≡ step_of (stopping (record_net table.now at) (marking state.old) 0) }
     ensures after { state.new ≡ stepped (stopping (record_net table.now at) (marking state.old) 0) (bytes (length state.old) (fire (record_net table.now at) (marking state.old) 0)) state.old }
 {
     let pre = records::pre_at(table, at);
     let post = records::post_at(table, at);
-    let answer = test(table, pre, post, &state[..]);
-    let Step::Goes = answer else {
-        return answer;
-    };
+    test(table, pre, post, &state[..])?;
     set_all(records::flags(table), pre, 0, state);
     set_all(&table[..0], post, 1, state);
-    answer
+    Ok(())
 }
 
-// One step of the game on words: the event whose record stands at an offset is tested, then fired.
-pub fn move_at(table: &[u8], at: usize, kept: [u64; 4], held: [u64; 4]) -> Moved
+// One step of the game on words: the event whose record stands at an offset is tested, then fired; fine: the marking after it.
+pub fn move_at(
+    table: &[u8],
+    at: usize,
+    kept: [u64; 4],
+    held: [u64; 4],
+) -> Result<[u64; 4], Cause<TableCondition>>
     requires { Recorded table.now at × Keeps table.now kept }
-    ensures answer { result.step ≡ step_of (stopping (record_net table.now at) (held_in held) 0) }
-    ensures after { held_in result.held ≡ moved (stopping (record_net table.now at) (held_in held) 0) (fire (record_net table.now at) (held_in held) 0) (held_in held) }
+    ensures { Moves (stopping (record_net table.now at) (held_in held) 0) (fire (record_net table.now at) (held_in held) 0) result }
 {
     let pre = held::collect(records::pre_at(table, at));
     let post = held::collect(records::post_at(table, at));
-    let old = records::old_rule(table);
-    let touched = touched(pre, post, held, old);
+    let touched = touched(pre, post, held, records::old_rule(table));
     let lacking = first(held::without(pre, held));
-    let step = told(lacking, first(held::without(touched, kept)));
-    let Step::Goes = step else {
-        return Moved { step, held };
-    };
+    told(lacking, first(held::without(touched, kept)))?;
     let taken = held::without(pre, kept);
-    let fired = held::either(post, held::without(held, taken));
-    Moved { step, held: fired }
-}
-
-// The number of what stops a step.
-fn cause_number(cause: Cause) -> u8
-    ensures { result ≡ cause_number cause }
-{
-    match cause {
-        Cause::Unknown => 10,
-        Cause::Lacks(_) => 11,
-        Cause::Meets(_) => 12,
-    }
-}
-
-// The condition that stops a step, if one does.
-fn cause_by(cause: Cause) -> Option<Condition>
-    ensures { result ≡ cause_by cause }
-{
-    match cause {
-        Cause::Unknown => None,
-        Cause::Lacks(b) => Some(Condition::Table(b)),
-        Cause::Meets(b) => Some(Condition::Table(b)),
-    }
-}
-
-// The place of a firing that is no step of a run: that condition, and 0 where there is none.
-fn cause_place(cause: Cause) -> usize
-    ensures { result ≡ cause_place cause }
-{
-    match cause {
-        Cause::Unknown => 0,
-        Cause::Lacks(b) => b.0 as usize,
-        Cause::Meets(b) => b.0 as usize,
-    }
-}
-
-// What stops a step as the refusal at a place.
-pub fn stopped_at(cause: Cause, place: usize) -> Result<usize, Refusal>
-    ensures { result ≡ stopped_at cause place }
-{
-    refusal::refused_by(cause_number(cause), place, cause_by(cause))
-}
-
-// A firing's answer as that of a call: a value where it goes, else the refusal at the condition.
-pub fn answered(step: Step, value: usize) -> Result<usize, Refusal>
-    ensures { result ≡ answered_of step value }
-{
-    match step {
-        Step::Goes => Ok(value),
-        Step::Stops(cause) => stopped_at(cause, cause_place(cause)),
-    }
+    Ok(held::either(post, held::without(held, taken)))
 }

@@ -16,8 +16,8 @@ use Rattle.refusal.specs.declared.UnfoldedCondition.{UnfoldedCondition}
 use Rattle.segments.specs.Ranges.{ranged_from}
 use Rattle.segments.proofs.Ranged.{ranged_on, ranged_end}
 use Rattle.step.specs.Steps.{set_all}
-use Rattle.walking.specs.declared.Failing.{Failing}
-use Rattle.walking.specs.declared.Failing.TheVariants.{Nothing, At}
+use Rattle.walking.specs.Steps.{Failing}
+use Rattle.std.specs.Prelude.{None, Some}
 use Rattle.walking.specs.Steps.{failing_of}
 
 -- ---- a number in a range
@@ -77,20 +77,20 @@ failing_found f (x ∷ xs) ys b e = go (f x) e (failing_found f xs ys b)
     go false e ih = e
 
 module _ (f : ℕ → Bool) (starts sizes : List ℕ) (i k : ℕ) (h : i < k) (found : Failing) (e : found ≡ failing_of (failing f (count (get_or starts i 0) (get_or sizes i 0)))) where
-  pub none_found : found ≡ Nothing → failing f (ranged_from starts sizes i (k - i)) ≡ failing f (ranged_from starts sizes (i + 1) (k - (i + 1)))
+  pub none_found : found ≡ None → failing f (ranged_from starts sizes i (k - i)) ≡ failing f (ranged_from starts sizes (i + 1) (k - (i + 1)))
   none_found q =
       ap (failing f) (ranged_on starts sizes i k h)
       ∙ failing_append f (count (get_or starts i 0) (get_or sizes i 0)) (ranged_from starts sizes (i + 1) (k - (i + 1))) (go (failing f (count (get_or starts i 0) (get_or sizes i 0))) (sym e ∙ q))
     where
-      go : (o : Option ℕ) → failing_of o ≡ Nothing → o ≡ none
+      go : (o : Option ℕ) → failing_of o ≡ None → o ≡ none
       go none p = refl
       go (some b) p = absurd (let z : ◌≡◌ {A = ℕ} 0 1 = cc in omega arith)
 
-  pub one_found : {b : UnfoldedCondition} → found ≡ At b → found ≡ failing_of (failing f (ranged_from starts sizes i (k - i)))
+  pub one_found : {b : UnfoldedCondition} → found ≡ Some b → found ≡ failing_of (failing f (ranged_from starts sizes i (k - i)))
   one_found {b} q = go (failing f (count (get_or starts i 0) (get_or sizes i 0))) refl
     where
       go : (o : Option ℕ) → failing f (count (get_or starts i 0) (get_or sizes i 0)) ≡ o → found ≡ failing_of (failing f (ranged_from starts sizes i (k - i)))
-      go none p = absurd (let w : found ≡ Nothing = e ∙ ap failing_of p in let z : ◌≡◌ {A = ℕ} 0 1 = cc in omega arith)
+      go none p = absurd (let w : found ≡ None = e ∙ ap failing_of p in let z : ◌≡◌ {A = ℕ} 0 1 = cc in omega arith)
       go (some x) p =
           e ∙ ap failing_of (p ∙ sym (ap (failing f) (ranged_on starts sizes i k h) ∙ failing_found f (count (get_or starts i 0) (get_or sizes i 0)) (ranged_from starts sizes (i + 1) (k - (i + 1))) x p))
 

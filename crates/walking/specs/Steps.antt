@@ -11,8 +11,8 @@ use Rattle.table.specs.Walk.{judge_of}
 use Rattle.table.specs.Decoded.{net_of}
 use Rattle.layout.specs.Laid.{Sums}
 use Rattle.segments.specs.Ranges.{ranged}
-use Rattle.walking.specs.declared.Failing.{Failing}
-use Rattle.walking.specs.declared.Failing.TheVariants.{Nothing, At}
+use Rattle.walking.specs.Steps.{Failing}
+use Rattle.std.specs.Prelude.{None, Some}
 
 -- What an unfolded condition of a list must pass, by a marking, the preconditions of an event and the conditions under the old rule: it
 -- holds, or it makes no contact (01, Playing the table; 02, No. 4).
@@ -22,8 +22,8 @@ passes_of true m pre old b = not (m b) || mem b pre && not (old b)
 
 -- The first unfolded condition that fails, as an answer.
 abbrev pub failing_of : Option ℕ → Failing
-failing_of none = Nothing
-failing_of (some b) = At (record { 0 = b })
+failing_of none = None
+failing_of (some b) = Some (record { 0 = b })
 
 -- What stops an event with these lists, of which no condition is persistent (01, Playing the table).
 abbrev pub stops : Marking → List ℕ → List ℕ → (ℕ → Bool) → Option Stop

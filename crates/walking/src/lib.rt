@@ -8,7 +8,7 @@ ghost use Rattle.model.specs.Lent.{marking};
 ghost use Rattle.table.specs.Decoded.{net_of};
 ghost use Rattle.segments.specs.Ranges.{ranged};
 ghost use Rattle.step.specs.Steps.{set_all};
-ghost use Rattle.unfolded_step.specs.Steps.{step_of};
+ghost use Rattle.stopping.specs.Unfolded.{step_of};
 ghost use Rattle.walking.specs.Steps.{passes_of, failing_of, stops, Summed, Kept, Below, BelowIn};
 
 use refusal::UnfoldedCondition;

@@ -4,7 +4,7 @@ use mathlib.Core.Path.{◌∙◌}
 use Prim.Native.Nat.{◌+◌, ◌-◌}
 use Rattle.table.proofs.Walk.{accepted}
 use Rattle.played.proofs.Begun.{begun_plays}
-use Rattle.exchange.proofs.Exchanging.{step_below, step_found, apart_asked}
+use Rattle.exchange.proofs.Exchanging.{step_below, step_found, before_fine, apart_asked}
 use Rattle.exchange.proofs.apart_steps.Goals as goal
 
 pub start_held-start-requires : goal.start_held-start-requires
@@ -23,8 +23,8 @@ pub slice_bounds-play-end : goal.slice_bounds-play-end
 slice_bounds-play-end c =
     omega (arith, c.requires.next)
 
-pub play-played-requires : goal.play-played-requires
-play-played-requires c =
+pub play-requires : goal.play-requires
+play-requires c =
     (c.requires.judged, c.requires.indexed)
 
 pub offset_bounds-run-k : goal.offset_bounds-run-k
@@ -75,6 +75,11 @@ pub apart_at-requires : goal.apart_at-requires
 apart_at-requires c =
     (step_found _ _ _ _ _ c.requires c.args.k (omega (arith, c.requires.next)), step_found _ _ _ _ _ c.requires (c.args.k + 1) (omega (arith, c.requires.next)))
 
+pub unwrap-before-requires : goal.unwrap-before-requires
+unwrap-before-requires c =
+    let played = begun_plays _ _ _ c.start_held-start.ensures _ _ c.play.ensures in
+    before_fine _ _ _ _ _ c.requires (c.args.k - 0) (omega arith) _ played
+
 pub returns : goal.returns
 returns c =
-    c.apart_at.ensures ∙ apart_asked _ _ _ _ _ c.requires (c.args.k - 0) (c.args.k + 1) (omega arith) (omega arith) _ _ (begun_plays _ _ _ c.start_held-start.ensures _ _ _ c.play-played.ensures)
+    c.apart_at.ensures ∙ apart_asked _ _ _ _ _ c.requires (c.args.k - 0) (c.args.k + 1) (omega arith) (omega arith) _ _ (begun_plays _ _ _ c.start_held-start.ensures _ _ c.play.ensures) c.unwrap-before.ensures

@@ -5,6 +5,7 @@ use mathlib.Core.Path.{◌≡◌, ◌∙◌, sym}
 use Prim.Native.Nat.{suc, ◌<◌}
 use lib.ListN.{length}
 use borrow.Author.Tests.{ltb-true}
+use Rattle.std.specs.Prelude.{Err}
 use Rattle.refusal.proofs.Chain.{passed_up}
 use Rattle.table.proofs.Walk.{accepted}
 use Rattle.exchange.specs.Calls.{exchange_of}
@@ -32,24 +33,25 @@ pub start_held-start-requires : goal.start_held-start-requires
 start_held-start-requires c =
     sym c.judge.ensures ∙ c.in_ok-n.was
 
-pub play-played-requires : goal.play-played-requires
-play-played-requires c =
+pub play-requires : goal.play-requires
+play-requires c =
     let j = sym c.judge.ensures ∙ c.in_ok-n.was in
     (j, c.fill.ensures)
 
-pub returns-in_default-answer : goal.returns-in_default-answer
-returns-in_default-answer c =
+pub returns-in_err-play : goal.returns-in_err-play
+returns-in_err-play c =
     let j = sym c.judge.ensures ∙ c.in_ok-n.was in
-    let whole = stopped_run _ _ _ _ j _ _ (begun_plays _ _ _ c.start_held-start.ensures _ _ _ c.play-played.ensures) _ c.in_default-answer.is in
+    let told : c.from_residual-in_err-play.result ≡ Err c.in_err-play.field-0.0 = search rules in
+    let whole = stopped_run _ _ _ _ j _ (begun_plays _ _ _ c.start_held-start.ensures _ _ c.play.ensures) _ c.in_err-play.was in
     record {
-      answer = whole.0;
+      answer = told ∙ whole.0;
       after = whole.1;
     }
 
 pub apart_steps-requires : goal.apart_steps-requires
 apart_steps-requires c =
     let j = sym c.judge.ensures ∙ c.in_ok-n.was in
-    let whole = whole_run _ _ c.args.k _ j _ _ (begun_plays _ _ _ c.start_held-start.ensures _ _ _ c.play-played.ensures) _ c.in-Ok-answer.is in
+    let whole = whole_run _ _ c.args.k _ j _ (begun_plays _ _ _ c.start_held-start.ensures _ _ c.play.ensures) _ c.in_ok-play.was in
     record { judged = j; indexed = c.fill.ensures; short = whole.1; plays = whole.0; next = ltb-true _ _ (sym c.has_next.ensures ∙ c.if-has_next.true) }
 
 pub offset_bounds-run-k : goal.offset_bounds-run-k
@@ -75,7 +77,7 @@ swap_first-requires c =
 pub returns-then-apart_steps : goal.returns-then-apart_steps
 returns-then-apart_steps c =
     let j = sym c.judge.ensures ∙ c.in_ok-n.was in
-    let e = exchanges _ _ c.args.k _ j _ _ (begun_plays _ _ _ c.start_held-start.ensures _ _ _ c.play-played.ensures) _ c.in-Ok-answer.is (sym c.has_next.ensures ∙ c.if-has_next.true) (sym c.apart_steps.ensures ∙ c.if-apart_steps.true) in
+    let e = exchanges _ _ c.args.k _ j _ (begun_plays _ _ _ c.start_held-start.ensures _ _ c.play.ensures) _ c.in_ok-play.was (sym c.has_next.ensures ∙ c.if-has_next.true) (sym c.apart_steps.ensures ∙ c.if-apart_steps.true) in
     record {
       answer = e.0;
       after = put_back c.args.k c.args.run.now _ c.swap_first.ensures ∙ e.1;
@@ -84,7 +86,7 @@ returns-then-apart_steps c =
 pub returns-then-has_next : goal.returns-then-has_next
 returns-then-has_next c =
     let j = sym c.judge.ensures ∙ c.in_ok-n.was in
-    let whole = kept_run _ _ c.args.k _ _ c.refused.ensures (c.refused.ensures ∙ not_apart_lem _ _ c.args.k _ j _ _ (begun_plays _ _ _ c.start_held-start.ensures _ _ _ c.play-played.ensures) _ c.in-Ok-answer.is (sym c.has_next.ensures ∙ c.if-has_next.true) (sym c.apart_steps.ensures ∙ c.if-apart_steps.false)) in
+    let whole = kept_run _ _ c.args.k _ _ c.refused.ensures (c.refused.ensures ∙ not_apart_lem _ _ c.args.k _ j _ (begun_plays _ _ _ c.start_held-start.ensures _ _ c.play.ensures) _ c.in_ok-play.was (sym c.has_next.ensures ∙ c.if-has_next.true) (sym c.apart_steps.ensures ∙ c.if-apart_steps.false)) in
     record {
       answer = whole.0;
       after = whole.1;
@@ -93,7 +95,7 @@ returns-then-has_next c =
 pub returns : goal.returns
 returns c =
     let j = sym c.judge.ensures ∙ c.in_ok-n.was in
-    let whole = kept_run _ _ c.args.k _ _ c.refused-2.ensures (c.refused-2.ensures ∙ no_step_lem _ _ c.args.k _ j _ _ (begun_plays _ _ _ c.start_held-start.ensures _ _ _ c.play-played.ensures) _ c.in-Ok-answer.is (sym c.has_next.ensures ∙ c.if-has_next.false)) in
+    let whole = kept_run _ _ c.args.k _ _ c.refused-2.ensures (c.refused-2.ensures ∙ no_step_lem _ _ c.args.k _ j _ (begun_plays _ _ _ c.start_held-start.ensures _ _ c.play.ensures) _ c.in_ok-play.was (sym c.has_next.ensures ∙ c.if-has_next.false)) in
     record {
       answer = whole.0;
       after = whole.1;

@@ -1,17 +1,12 @@
 -- `played::move_event` meets its contract.
 use native.Mathlib.Omega.{arith}
-use mathlib.Core.Path.{◌∙◌}
 use Rattle.held.specs.Held.{held_in}
-use Rattle.played.proofs.Moving.{move_unknown, move_listed, move_told, move_left}
+use Rattle.played.proofs.Moving.{move_unknown, move_listed, move_found}
 use Rattle.played.proofs.move_event.Goals as goal
 
 pub returns-then-n-e : goal.returns-then-n-e
 returns-then-n-e c =
-    let whole = move_unknown _ _ c.requires.0 c.args.e c.if-n-e.true (held_in c.args.held) in
-    record {
-      answer = whole.0;
-      after = whole.1;
-    }
+    move_unknown _ _ c.requires.0 c.args.e c.if-n-e.true (held_in c.args.held)
 
 pub offset_bounds-offsets-e : goal.offset_bounds-offsets-e
 offset_bounds-offsets-e c =
@@ -27,7 +22,5 @@ move_at-requires c =
 
 pub returns : goal.returns
 returns c =
-    let place = c.requires.1.each c.args.e c.if-n-e.false in record {
-      answer = c.move_at.ensures.answer ∙ move_told _ _ c.requires.0 c.args.e c.if-n-e.false _ place (held_in c.args.held);
-      after = c.move_at.ensures.after ∙ move_left _ _ c.requires.0 c.args.e c.if-n-e.false _ place (held_in c.args.held);
-    }
+    let place = c.requires.1.each c.args.e c.if-n-e.false in
+    move_found _ _ c.requires.0 c.args.e c.if-n-e.false _ place (held_in c.args.held) _ c.move_at.ensures

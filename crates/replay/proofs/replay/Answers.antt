@@ -1,54 +1,43 @@
 -- `replay::replay` meets its contract.
 use Rattle.std.proofs.Common.{rules}
-use native.Mathlib.Omega.{arith}
-use mathlib.Core.Path.{◌≡◌, ◌∙◌, sym}
+use mathlib.Core.Path.{◌≡◌, ◌∙◌, refl, sym, ap}
+use lib.ListN.{length}
+use Rattle.model.specs.Net.{Marking}
+use Rattle.table.specs.Decoded.{net_of}
+use Rattle.played.specs.Begun.{begun_at}
 use Rattle.refusal.proofs.Chain.{passed_up}
-use Rattle.table.proofs.Walk.{accepted}
-use Rattle.replay.specs.Calls.{replay_of, end_of}
-use Rattle.replay.proofs.Ends.{call_refused, call_fine, replay_judged}
-use Rattle.played.proofs.Begun.{begun_plays}
+use Rattle.replay.specs.Calls.{played_of, replay_of, end_of}
+use Rattle.replay.proofs.Ends.{replay_judged}
 use Rattle.replay.proofs.replay.Goals as goal
 
 pub returns-in_err-n : goal.returns-in_err-n
 unfolding replay_of end_of
 returns-in_err-n c =
     let same : c.from_residual.result ≡ c.judge.result = search rules in
-    let told = sym c.judge.ensures ∙ c.in_err-n.was in
     record {
       answer = same ∙ passed_up _ c.judge.ensures c.in_err-n.was;
-      after = simp told;
+      after = simp (sym c.in_err-n.ensures);
     }
-
-pub fill-requires : goal.fill-requires
-fill-requires c =
-    let j = sym c.judge.ensures ∙ c.in_ok-n.was in
-    let few = (accepted _ _ j).few in
-    (j, omega arith)
 
 pub start_held-requires : goal.start_held-requires
 start_held-requires c =
-    sym c.judge.ensures ∙ c.in_ok-n.was
+    sym c.in_ok-n.ensures
 
-pub play-played-requires : goal.play-played-requires
-play-played-requires c =
-    (sym c.judge.ensures ∙ c.in_ok-n.was, c.fill.ensures)
-
-pub returns-in_default-answer : goal.returns-in_default-answer
-unfolding end_of
-returns-in_default-answer c =
-    let j = sym c.judge.ensures ∙ c.in_ok-n.was in
-    let whole = call_refused _ _ _ _ _ (begun_plays _ _ _ c.start_held.ensures _ _ _ c.play-played.ensures) _ _ (replay_judged _ _ _ _ j) _ c.in_default-answer.is in
-    record {
-      answer = whole.0;
-      after = whole.1;
-    }
+pub replay_at-requires : goal.replay_at-requires
+replay_at-requires c =
+    sym c.in_ok-n.ensures
 
 pub returns : goal.returns
 unfolding end_of
 returns c =
-    let j = sym c.judge.ensures ∙ c.in_ok-n.was in
-    let whole = call_fine _ _ _ _ _ (begun_plays _ _ _ c.start_held.ensures _ _ _ c.play-played.ensures) _ _ (replay_judged _ _ _ _ j) _ c.in-Ok-answer.is _ _ c.write_end.ensures.answer c.write_end.ensures.after in
+    let s = c.args.table.now in
+    let r = c.args.run.now in
+    let n = net_of s in
+    let j = sym c.in_ok-n.ensures in
+    let start = c.start_held.ensures in
+    let same = ap (λ (m : Marking). played_of n (begun_at n m) r (length c.args.end.now)) start ∙ sym (replay_judged s r (length c.args.end.now) _ j) in
+    let told = c.replay_at.ensures.answer ∙ same in
     record {
-      answer = whole.0;
-      after = whole.1;
+      answer = told;
+      after = c.replay_at.ensures.after ∙ rw (told, start) refl;
     }

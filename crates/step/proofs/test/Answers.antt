@@ -2,7 +2,8 @@
 use mathlib.Core.Path.{◌∙◌, refl, ap}
 use Rattle.model.specs.Net.{Marking, stopping}
 use Rattle.held.proofs.Words.{tabled_marking}
-use Rattle.step.specs.Steps.{lists_net, step_of}
+use Rattle.step.specs.Steps.{lists_net}
+use Rattle.stopping.specs.Table.{step_of}
 use Rattle.step.proofs.Tests.{tested}
 use Rattle.step.proofs.test.Goals as goal
 

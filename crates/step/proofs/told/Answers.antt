@@ -1,13 +1,13 @@
 -- `step::told` meets its contract.
 use Rattle.step.proofs.told.Goals as goal
 
-pub returns-in-At : goal.returns-in-At
-returns-in-At c =
-    rw c.in-At.is
+pub returns-in-Some : goal.returns-in-Some
+returns-in-Some c =
+    rw c.in-Some.is
 
-pub returns-in-At-meeting : goal.returns-in-At-meeting
-returns-in-At-meeting c =
-    rw (c.in_default.is, c.in-At-meeting.is)
+pub returns-in-Some-meeting : goal.returns-in-Some-meeting
+returns-in-Some-meeting c =
+    rw (c.in_default.is, c.in-Some-meeting.is)
 
 pub returns : goal.returns
 returns c =
