@@ -11,9 +11,8 @@ ghost use Rattle.segments.specs.Ranges.{Owned};
 ghost use Rattle.sides.specs.Sides.{Sided};
 ghost use Rattle.arcs.specs.Arcs.{arcs_at, Arcs, Shared, Lent, side_at, shift_of};
 
-use segments::Owner;
 use sides::Side;
-use unfolding::Found;
+use unfolding::Coloured;
 
 // The side that is laid at a place: into the transition what is taken and what is filled, out of it what is put and what is emptied.
 fn side_at(i: usize) -> Side
@@ -45,7 +44,7 @@ fn shift_at(i: usize, firsts: u32) -> u32
 }
 
 // The places of an event among markers and users, counted anew only for its first transition.
-fn share(table: &[u8], own: Owner, marks: &mut [u32], uses: &mut [u32])
+fn share(table: &[u8], own: Coloured, marks: &mut [u32], uses: &mut [u32])
     requires event_bound { own.event < (net_of table.now).events }
     requires lent { Lent table.now own.event own.rest marks.old uses.old }
     ensures { Shared table.now own.event marks.new uses.new }
@@ -66,7 +65,7 @@ fn lay_arcs<'a>(
     chosen: &'a [u32],
     before: &'a [u32],
     after: &'a [u32],
-    own: Owner,
+    own: Coloured,
     starts: &mut [u32],
     sizes: &mut [u32],
 )
@@ -103,7 +102,7 @@ pub fn open_transition<'a>(
     markers: &'a [u32],
     users: &'a [u32],
     bases: &'a [u32],
-    own: Owner,
+    own: Coloured,
     marks: &mut [u32],
     uses: &mut [u32],
     starts: &mut [u32],
@@ -139,7 +138,7 @@ pub fn open_transition<'a>(
 }
 
 // What the number after that of an unfolded event names: the next colour of its event, else the first of the next event.
-pub fn next_owner<'a>(table: &'a [u8], events: usize, markers: &'a [u32], own: Owner) -> Found
+pub fn next_owner<'a>(table: &'a [u8], events: usize, markers: &'a [u32], own: Coloured) -> Option<Coloured>
     requires within { numbers.Within table.now markers.now events }
     requires owner { numbers.Owner table.now (sum (size (net_of table.now)) own.event + own.rest) own.event own.at own.rest own.weight }
     ensures { numbers.Belongs table.now (suc (sum (size (net_of table.now)) own.event + own.rest)) result }
@@ -152,5 +151,5 @@ pub fn next_owner<'a>(table: &'a [u8], events: usize, markers: &'a [u32], own: O
         let weight = colours::colours(table, markers, tally::list_at(table, at, false));
         return Found::At(own.event + 1, at, 0, weight);
     }
-    Found::Past
+    None
 }

@@ -40,8 +40,7 @@ fn weigh<'a>(
             if at == c.count {
                 return Weighed::NoSuch;
             }
-            let p = c.picks[at];
-            let m = p.0;
+            let m = c.picks[at];
             let place = unfolding::marker_place(table, events, b, m);
             let radix = tally::number(markers, b) as usize;
             if radix <= place {

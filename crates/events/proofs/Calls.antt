@@ -14,7 +14,8 @@ use Rattle.model.specs.Runs.{Marker}
 use Rattle.model.specs.Unfolding.{UnfoldedEvent, markers, reads, origin, basic}
 use Rattle.model.specs.Numbering.{ways, digits, size, event_count}
 use Rattle.refusal.specs.Answer.{Judged}
-use Rattle.std.specs.Prelude.{Ok, Err}
+use Rattle.std.specs.Prelude.{Result, Ok, Err}
+use Rattle.refusal.specs.declared.Refusal.{Refusal}
 use Rattle.refusal.specs.Answer.{refused_at}
 use Rattle.refusal.proofs.Chain.{need_passes, need_refuses}
 use Rattle.table.specs.Walk.{offset_of}
@@ -27,7 +28,7 @@ use Rattle.events.specs.declared.EventOrigin.{EventOrigin}
 use Rattle.events.specs.Colours.{no_colour, push_all}
 use Rattle.unfolding.specs.Numbers.{Within, Owner, choices_of}
 use Rattle.events.specs.Numbers.{Picking}
-use Rattle.events.specs.Answers.{no_origin, origin_if, origin_judged, origin_of}
+use Rattle.events.specs.Answers.{origin_if, origin_judged, origin_of, origin_answer}
 use Rattle.unfolding.proofs.Owners.{before_few}
 use Rattle.unfolding.proofs.Numbered.{choices_at, events_basic, origin_is, origin_low}
 use Rattle.events.proofs.Codes.{count_all}
@@ -69,12 +70,12 @@ module _ (s ms : List ℕ) (events : ℕ) (w : Within s ms events) (e at : ℕ) 
 -- ---- the event and markers behind a number
 
 module _ (s : List ℕ) (j : ℕ) where
-  pub origin_refused : {r : Judged} → r ≡ origin_judged s j → {x : Rattle.refusal.specs.declared.Refusal.Refusal} → r ≡ Err x → no_origin r ≡ origin_of s j
+  pub origin_refused : {r : Judged} → r ≡ origin_judged s j → {x : Refusal} → r ≡ Err x → Err x ≡ origin_of s j
   unfolding origin_of
-  origin_refused e t = ap no_origin t ∙ sym (ap (λ (a : Judged). origin_if a (origin (net_of s) j)) (sym e ∙ t))
+  origin_refused e t = sym (ap (λ (a : Judged). origin_if a (origin (net_of s) j)) (sym e ∙ t))
 
   module _ (u : (own : Judged) → unfolding_of s own ≡ own) where
-    pub origin_past : event_count (net_of s) ≤ j → no_origin (refused_at 10 0) ≡ origin_of s j
+    pub origin_past : event_count (net_of s) ≤ j → refused_at 10 0 ≡ origin_of s j
     unfolding origin_of origin_judged
     origin_past h =
         let t : origin_judged s j ≡ refused_at 10 0
@@ -82,7 +83,7 @@ module _ (s : List ℕ) (j : ℕ) where
         sym (ap (λ (a : Judged). origin_if a (origin (net_of s) j)) t)
 
     pub origin_found : (e rest : ℕ) → e < (net_of s).events → rest < size (net_of s) e → sum (size (net_of s)) e + rest ≡ j → (mss : List (List Marker)) → mss ≡ choices_at (net_of s) e
-        → (c : Colour) → c ≡ push_all no_colour (digits mss rest) → record { answer = Ok c.count; event = record { 0 = e }; colour = c } ≡ origin_of s j
+        → (c : Colour) → c ≡ push_all no_colour (digits mss rest) → Ok (record { event = record { 0 = e }; colour = c }) ≡ origin_of s j
     unfolding origin_of origin_judged
     origin_found e rest h l z mss m c q =
         let x : UnfoldedEvent = record { event = e; colour = digits (choices_at (net_of s) e) rest } in
@@ -90,9 +91,8 @@ module _ (s : List ℕ) (j : ℕ) where
         let low : ltb j (basic (net_of s)).events ≡ true = ap (λ (k : ℕ). ltb k (basic (net_of s)).events) (sym z) ∙ origin_low (net_of s) e rest h l in
         let t : origin_judged s j ≡ Ok (length (origin (net_of s) j).colour) = u _ ∙ need_passes 10 0 low in
         let d : c ≡ push_all no_colour x.colour = q ∙ ap (λ (k : List (List Marker)). push_all no_colour (digits k rest)) m in
-        let k : c.count ≡ length x.colour = ap (λ (y : Colour). y.count) d ∙ count_all no_colour x.colour ∙ omega arith in
-        made (length x.colour) x.colour k d ∙ sym (ap (λ (a : Judged). origin_if a (origin (net_of s) j)) t ∙ ap (λ (y : UnfoldedEvent). origin_if (Ok (length y.colour)) y) o)
-      where
-        made : (i : ℕ) (y : List Marker) → c.count ≡ i → c ≡ push_all no_colour y
-            → ◌≡◌ {A = EventOrigin} (record { answer = Ok c.count; event = record { 0 = e }; colour = c }) (record { answer = Ok i; event = record { 0 = e }; colour = push_all no_colour y })
-        made i y a b = cc
+        ap {B = Result EventOrigin Refusal} (λ (y : Colour). Ok (record { event = record { 0 = e }; colour = y })) d ∙ sym (ap (λ (a : Judged). origin_if a (origin (net_of s) j)) t ∙ ap (λ (y : UnfoldedEvent). origin_if (Ok (length y.colour)) y) o)
+
+-- a fine origin tells as many markers as it has
+pub origin_many : (x : UnfoldedEvent) → origin_answer (origin_if (Ok (length x.colour)) x) ≡ Ok (length x.colour)
+origin_many x = ap Ok (count_all no_colour x.colour ∙ omega arith)

@@ -9,11 +9,11 @@ use Rattle.events.specs.declared.Colour.{Colour}
 
 -- The colour without a marker.
 abbrev pub no_colour : Colour
-no_colour = record { count = 0; picks = replicate 16 (record { 0 = Start }) }
+no_colour = record { count = 0; picks = replicate 16 Start }
 
 -- A colour with one marker more.
 abbrev pub push : Colour → declared.Marker → Colour
-push c m = record { count = c.count + 1; picks = set c.picks c.count (record { 0 = m }) }
+push c m = record { count = c.count + 1; picks = set c.picks c.count m }
 
 -- A colour with a list of markers more, one after the other.
 unfoldable pub push_all : Colour → List Marker → Colour
@@ -22,7 +22,7 @@ push_all c (m ∷ ms) = push_all (push c (shown m)) ms
 
 -- The marker at a place of a colour, the start past its sixteen places.
 abbrev pub marker_at : Colour → ℕ → Marker
-marker_at c i = meant (get_or c.picks i (record { 0 = Start })).0
+marker_at c i = meant (get_or c.picks i Start)
 
 -- The markers of a colour from a place on, as many as it says (01, Unfolding).
 abbrev pub colour_from : Colour → ℕ → List Marker

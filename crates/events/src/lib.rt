@@ -8,26 +8,20 @@ ghost use Rattle.colours.specs.Colours.{ending};
 ghost use Rattle.unfolding.specs.Numbers.{choices_of};
 ghost use Rattle.events.specs.Colours.{no_colour, push, push_all};
 ghost use Rattle.events.specs.Numbers.{Picking, Room, told_by};
-ghost use Rattle.events.specs.Answers.{no_origin, origin_of};
+ghost use Rattle.events.specs.Answers.{origin_of};
 
 use refusal::{Marker, Refusal, TableEvent, UnfoldedEvent};
-use unfolding::Found;
-
-// One marker of a colour.
-#[derive(Clone, Copy)]
-pub struct Pick(pub Marker);
 
 // A colour: one marker for each persistent precondition, ascending.
 #[derive(Clone, Copy)]
 pub struct Colour {
     pub count: usize,
-    pub picks: [Pick; 16],
+    pub picks: [Marker; 16],
 }
 
-// The event and the markers behind an unfolded event's number, with the answer that says how many markers, or the refusal.
+// The event and the markers behind an unfolded event's number.
 #[derive(Clone, Copy)]
 pub struct EventOrigin {
-    pub answer: Result<usize, Refusal>,
     pub event: TableEvent,
     pub colour: Colour,
 }
@@ -38,7 +32,7 @@ fn no_colour() -> Colour
 {
     Colour {
         count: 0,
-        picks: [Pick(Marker::Start); 16],
+        picks: [Marker::Start; 16],
     }
 }
 
@@ -49,7 +43,7 @@ fn pushed(c: Colour, m: Marker) -> Colour
 {
     let at = c.count;
     let mut d = c;
-    d.picks[at] = Pick(m);
+    d.picks[at] = m;
     d.count = at + 1;
     d
 }
@@ -132,44 +126,20 @@ fn colour_at<'a>(
     coloured(&codes, count)
 }
 
-// No event and no markers behind a number, with why.
-fn no_origin(answer: Result<usize, Refusal>) -> EventOrigin
-    ensures { result ≡ no_origin answer }
-{
-    EventOrigin {
-        answer,
-        event: TableEvent(0),
-        colour: no_colour(),
-    }
-}
-
 // The event and the markers behind an unfolded event's number.
-pub fn event_origin(table: &[u8], j: UnfoldedEvent) -> EventOrigin
+pub fn event_origin(table: &[u8], j: UnfoldedEvent) -> Result<EventOrigin, Refusal>
     ensures { result ≡ origin_of table.now j.0 }
 {
     let mut markers = [0u32; 256];
     let mut users = [0u32; 256];
     let mut bases = [0u32; 257];
-    let r = layout::lay_out(table, &mut markers, &mut users, &mut bases);
-    let Ok(events) = r else {
-        return no_origin(r);
+    let events = layout::lay_out(table, &mut markers, &mut users, &mut bases)?;
+    let Some(own) = unfolding::owner(table, events, &markers, j.0 as u32) else {
+        return refusal::refused(10, 0);
     };
-    let wanted = j.0 as u32;
-    let f = unfolding::owner(table, events, &markers, wanted);
-    let Found::At(e, at, rest, weight) = f else {
-        return no_origin(refusal::refused(10, 0));
-    };
-    let colour = colour_at(
-        table,
-        events,
-        &markers,
-        tally::list_at(table, at, false),
-        weight,
-        rest,
-    );
-    EventOrigin {
-        answer: Ok(colour.count),
-        event: TableEvent(e as u16),
-        colour,
-    }
+    let pre = tally::list_at(table, own.at, false);
+    Ok(EventOrigin {
+        event: TableEvent(own.event as u16),
+        colour: colour_at(table, events, &markers, pre, own.weight, own.rest),
+    })
 }

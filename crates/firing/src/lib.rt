@@ -17,9 +17,8 @@ ghost use Rattle.firing.specs.Calls.{unfolded_fire_of, unfolded_fired_of};
 ghost use Rattle.firing.specs.Steps.{Lending};
 
 use refusal::{Refusal, UnfoldedEvent};
-use segments::Owner;
 use unfolded_step::Step;
-use unfolding::Found;
+use unfolding::Coloured;
 
 // A step over the ranges of what is taken and of what is put: tested, then what is taken cleared and what is put set.
 fn step_over<'a>(
@@ -65,7 +64,7 @@ fn step_at<'a>(
     markers: &'a [u32],
     users: &'a [u32],
     bases: &'a [u32],
-    own: Owner,
+    own: Coloured,
     state: &mut [u8],
 ) -> Step
     requires owned { Owned table.now markers.now users.now bases.now own.event own.at own.weight own.rest }
@@ -135,12 +134,10 @@ pub fn unfolded_fire(table: &[u8], marking: &mut [u8], j: UnfoldedEvent) -> Resu
     let mut bases = [0u32; 257];
     let events = lend(table, &marking[..], &mut markers, &mut users, &mut bases)?;
     let wanted = j.0 as u32;
-    let f = unfolding::owner(table, events, &markers, wanted);
-    let Found::At(e, at, rest, weight) = f else {
+    let Some(own) = unfolding::owner(table, events, &markers, wanted) else {
         return refusal::refused(10, 0);
     };
     let count = marking.len();
-    let own = segments::own(e, at, weight, rest);
     let step = step_at(table, &markers, &users, &bases, own, marking);
     unfolded_step::answered(step, count)
 }

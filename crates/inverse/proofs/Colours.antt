@@ -10,7 +10,6 @@ use Rattle.lists.specs.Lists.{count}
 use Rattle.lists.proofs.Positions.{count_split}
 use Rattle.model.specs.Runs.{Marker}
 use Rattle.refusal.specs.declared.Marker.TheVariants.{Start}
-use Rattle.events.specs.declared.Pick.{Pick}
 use Rattle.events.specs.declared.Colour.{Colour}
 use Rattle.unfolding.specs.Markers.{shown, meant}
 use Rattle.events.specs.Colours.{no_colour, push, push_all, marker_at, colour_of}
@@ -30,10 +29,9 @@ push_more c m h =
     let a : c.count + 1 - 0 ≡ c.count + 1 = omega arith in
     let z : c.count - 0 ≡ c.count = omega arith in
     let d = push c (shown m) in
-    let pick : Pick = record { 0 = Start } in
-    let last : marker_at d c.count ≡ m = ap (λ (p : Pick). meant p.0) (get_or-set_same c.picks c.count (record { 0 = shown m }) pick h) ∙ meant_shown m in
+    let last : marker_at d c.count ≡ m = ap meant (get_or-set_same c.picks c.count (shown m) Start h) ∙ meant_shown m in
     let rest : map (marker_at d) (count 0 c.count) ≡ map (marker_at c) (count 0 c.count)
-    = map_same (marker_at d) (marker_at c) 0 c.count (λ x l. ap (λ (p : Pick). meant p.0) (get_or-set_other c.picks c.count x (record { 0 = shown m }) pick (λ e. omega (arith, e)))) in
+    = map_same (marker_at d) (marker_at c) 0 c.count (λ x l. ap meant (get_or-set_other c.picks c.count x (shown m) Start (λ e. omega (arith, e)))) in
     ap (λ (k : ℕ). map (marker_at d) (count 0 k)) a
     ∙ ap (λ (l : List ℕ). map (marker_at d) l) (rw zero-add at (count_split 0 c.count 1))
     ∙ map-append (marker_at d) (count 0 c.count) (c.count ∷ [])
@@ -50,7 +48,7 @@ push_all_lem c [] h = sym (append-nil (colour_of c))
     append-nil [] = refl
     append-nil (x ∷ l) = ap {B = List Marker} (λ z. x ∷ z) (append-nil l)
 push_all_lem c (m ∷ ms) h =
-    push_all_lem (push c (shown m)) ms (omega (arith, length-set c.picks c.count (record { 0 = shown m })))
+    push_all_lem (push c (shown m)) ms (omega (arith, length-set c.picks c.count (shown m)))
     ∙ ap (λ (l : List Marker). l ++ ms) (push_more c m (omega arith)) ∙ append_assoc (colour_of c) (m ∷ []) ms
 
 -- Markers that were told, at most sixteen, are meant again.

@@ -31,9 +31,9 @@ pub picks_long : (ws : List ℕ) → length (picks_for ws) ≡ 16
 unfolding picks_for
 picks_long ws = refl
 
-pub pick_at : (ws : List ℕ) (i : ℕ) → i < 16 → get_or (picks_for ws) i (record { 0 = Start }) ≡ record { 0 = marker_of (get_or ws i start_word) }
+pub pick_at : (ws : List ℕ) (i : ℕ) → i < 16 → get_or (picks_for ws) i Start ≡ marker_of (get_or ws i start_word)
 unfolding picks_for
-pick_at ws i h = counted_at (λ (j : ℕ). record { 0 = marker_of (get_or ws j start_word) }) (record { 0 = Start }) 0 16 i h ∙ ap (λ (j : ℕ). record { 0 = marker_of (get_or ws j start_word) }) (zero-add i)
+pick_at ws i h = counted_at (λ (j : ℕ). marker_of (get_or ws j start_word)) Start 0 16 i h ∙ ap (λ (j : ℕ). marker_of (get_or ws j start_word)) (zero-add i)
 
 -- ---- the markers of a colour as numbers
 

@@ -7,7 +7,6 @@ use Rattle.refusal.specs.declared.Marker.TheVariants.{Start, ByEvent}
 use Rattle.refusal.specs.Answer.{Judged}
 use Rattle.refusal.specs.Answer.{and_then, fitting, written}
 use Rattle.events.specs.declared.Colour.{Colour}
-use Rattle.events.specs.declared.Pick.{Pick}
 use Rattle.events.specs.declared.EventOrigin.{EventOrigin}
 use Rattle.events.specs.Colours.{colour_of}
 use Rattle.condition_numbers.specs.Answers.{ordinary_number, copy_number}
@@ -27,9 +26,9 @@ unfoldable pub marker_of : ℕ → declared.Marker
 marker_of w = cond (eqb w start_word) Start (ByEvent (record { 0 = cond (ltb w 65536) w 65535 }))
 
 -- The first sixteen markers that numbers say, the start past the last number.
-unfoldable pub picks_for : List ℕ → List Pick
+unfoldable pub picks_for : List ℕ → List Marker
 unfolding marker_of
-picks_for ws = map (λ i. record { 0 = marker_of (get_or ws i start_word) }) (count 0 16)
+picks_for ws = map (λ i. marker_of (get_or ws i start_word)) (count 0 16)
 
 -- The colour that numbers say: as many markers as numbers (01, Unfolding).
 unfoldable pub colour_for : List ℕ → Colour

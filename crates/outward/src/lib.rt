@@ -10,7 +10,7 @@ ghost use Rattle.outward.specs.Origins.{origin_answer, condition_or, copy_or, ma
 ghost use Rattle.outward.specs.Words.{start_word, word_of, marker_of, colour_for, words_of, markers_of, markers_into, condition_for};
 
 use conditions::ConditionOrigin;
-use events::{Colour, EventOrigin, Pick};
+use events::{Colour, EventOrigin};
 use refusal::{Condition, Marker, Refusal, TableCondition, TableEvent};
 
 // The number that stands for the start.
@@ -112,11 +112,11 @@ fn word_at(words: &[u32], i: usize) -> u32
 pub fn colour_of(words: &[u32]) -> Colour
     ensures { result ≡ colour_for words.now }
 {
-    let mut picks = [Pick(Marker::Start); 16];
+    let mut picks = [Marker::Start; 16];
     let mut i: usize = 0;
     while i < 16 {
         let m = marker_of(word_at(words, i));
-        picks[i] = Pick(m);
+        picks[i] = m;
         i = i + 1;
     }
     Colour {
@@ -130,8 +130,7 @@ fn marker_at(colour: Colour, i: usize) -> Marker
     ensures { meant result ≡ marker_at colour i }
 {
     if i < 16 {
-        let p = colour.picks[i];
-        return p.0;
+        return colour.picks[i];
     }
     Marker::Start
 }

@@ -21,8 +21,9 @@ use Rattle.table.specs.Walk.{offset_of}
 use Rattle.table.specs.Decoded.{net_of}
 use Rattle.tally.specs.Having.{Tally}
 use Rattle.layout.proofs.Counts.{sum_part}
-use Rattle.unfolding.specs.declared.Found.{Found}
-use Rattle.unfolding.specs.declared.Found.TheVariants.{At, Past}
+use Rattle.std.specs.Prelude.{Option as Perhaps}
+use Rattle.unfolding.specs.declared.Coloured.{Coloured}
+use Rattle.std.specs.Prelude.{None, Some}
 use Rattle.unfolding.specs.Numbers.{Owner, Belongs}
 use Rattle.pnml.specs.Text.{text_of}
 use Rattle.promises.proofs.One.{same_part}
@@ -136,12 +137,12 @@ same_owned f c i b d h g = go (dec_le b d) (dec_le d b)
     go (no l) k = absurd (apart d b g h (omega arith))
     go (yes l) (no k) = absurd (apart b d h g (omega arith))
 
-same_owner : (s : List ℕ) (j : ℕ) (r q : Found) → Belongs s j r → Belongs s j q → r ≡ q
+same_owner : (s : List ℕ) (j : ℕ) (r q : Perhaps Coloured) → Belongs s j r → Belongs s j q → r ≡ q
 unfolding event_count
-same_owner s j Past Past h g = refl
-same_owner s j (At e at rest weight) Past h g = absurd (omega (arith, sum_part (size (net_of s)) (net_of s).events e h.event, h.left, h.whole, h.below, g))
-same_owner s j Past (At e at rest weight) h g = absurd (omega (arith, sum_part (size (net_of s)) (net_of s).events e g.event, g.left, g.whole, g.below, h))
-same_owner s j (At e at rest weight) (At d by left wide) h g =
+same_owner s j None None h g = refl
+same_owner s j (Some e at rest weight) None h g = absurd (omega (arith, sum_part (size (net_of s)) (net_of s).events e h.event, h.left, h.whole, h.below, g))
+same_owner s j None (Some e at rest weight) h g = absurd (omega (arith, sum_part (size (net_of s)) (net_of s).events e g.event, g.left, g.whole, g.below, h))
+same_owner s j (Some e at rest weight) (Some d by left wide) h g =
     let z : e ≡ d = go (dec_le e d) (dec_le d e) (never_later s j e at rest weight d by left wide h g) (never_later s j d by left wide e at rest weight g h) in
     let place : at ≡ by = h.offset ∙ ap (offset_of s) z ∙ sym g.offset in
     let whole : weight ≡ wide = h.whole ∙ ap (size (net_of s)) z ∙ sym g.whole in

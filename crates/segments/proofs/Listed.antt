@@ -23,7 +23,7 @@ use Rattle.unfolding.specs.Numbers.{choices_of}
 use Rattle.unfolding.proofs.Numbered.{origin_is}
 use Rattle.unfolding.proofs.Owners.{within_laid, before_few}
 use Rattle.segments.specs.Ranges.{ranged, chosen_from, Choosing, event_at, touching, added, Known, owner_of, Owned, Ranges}
-use Rattle.segments.specs.declared.Owner.{Owner}
+use Rattle.unfolding.specs.declared.Coloured.{Coloured}
 use Rattle.segments.proofs.Places.{places_spread}
 use Rattle.segments.proofs.Chosen.{chosen_at}
 
@@ -115,13 +115,13 @@ module _ {s ms us bs : List ℕ} {e at weight rest : ℕ} (o : Owned s ms us bs 
 -- ---- an owner made of its parts
 
 module _ (s : List ℕ) where
-  pub owned_by : (ms us bs : List ℕ) (e at weight rest : ℕ) (own : Owner) → own ≡ owner_of e at weight rest → Owned s ms us bs e at weight rest
+  pub owned_by : (ms us bs : List ℕ) (e at weight rest : ℕ) (own : Coloured) → own ≡ owner_of e at weight rest → Owned s ms us bs e at weight rest
       → Owned s ms us bs own.event own.at own.weight own.rest
-  owned_by ms us bs e at weight rest own z o = subst (λ (x : Owner). Owned s ms us bs x.event x.at x.weight x.rest) (sym z) o
+  owned_by ms us bs e at weight rest own z o = subst (λ (x : Coloured). Owned s ms us bs x.event x.at x.weight x.rest) (sym z) o
 
-  pub number_by : (e at weight rest : ℕ) (own : Owner) → own ≡ owner_of e at weight rest → sum (size (net_of s)) own.event + own.rest ≡ sum (size (net_of s)) e + rest
-  number_by e at weight rest own z = ap (λ (x : Owner). sum (size (net_of s)) x.event + x.rest) z
+  pub number_by : (e at weight rest : ℕ) (own : Coloured) → own ≡ owner_of e at weight rest → sum (size (net_of s)) own.event + own.rest ≡ sum (size (net_of s)) e + rest
+  number_by e at weight rest own z = ap (λ (x : Coloured). sum (size (net_of s)) x.event + x.rest) z
 
-  pub ranges_by : (post : Bool) (e at weight rest : ℕ) (own : Owner) → own ≡ owner_of e at weight rest → (starts sizes : List ℕ) (k : ℕ)
+  pub ranges_by : (post : Bool) (e at weight rest : ℕ) (own : Coloured) → own ≡ owner_of e at weight rest → (starts sizes : List ℕ) (k : ℕ)
       → Ranges (net_of s) post (sum (size (net_of s)) own.event + own.rest) starts sizes k → Ranges (net_of s) post (sum (size (net_of s)) e + rest) starts sizes k
   ranges_by post e at weight rest own z starts sizes k r = subst (λ (j : ℕ). Ranges (net_of s) post j starts sizes k) (number_by e at weight rest own z) r

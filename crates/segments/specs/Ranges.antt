@@ -15,7 +15,7 @@ use Rattle.colours.specs.Colours.{flagged}
 use Rattle.layout.specs.Laid.{Marked, Laid, Sums}
 use Rattle.unfolding.specs.Numbers.{choices_of}
 use Rattle.segments.specs.declared.Segment.{Segment}
-use Rattle.segments.specs.declared.Owner.{Owner}
+use Rattle.unfolding.specs.declared.Coloured.{Coloured}
 
 -- ---- ranges
 
@@ -103,7 +103,7 @@ pub record Known (s users bases marks uses chosen pre members : List ℕ) (post 
   pub listing : Members (list_of (net_of s) post e) members
 
 -- What the number of an unfolded event names, from its parts (01, Unfolding).
-abbrev pub owner_of : ℕ → ℕ → ℕ → ℕ → Owner
+abbrev pub owner_of : ℕ → ℕ → ℕ → ℕ → Coloured
 owner_of event at weight rest = record { event = event; at = at; weight = weight; rest = rest }
 
 -- An event of a table that is laid out, with its record's offset, its number of colours and what is left of a number (01, Unfolding).

@@ -9,7 +9,9 @@ ghost use Rattle.records.specs.Records.{conditions};
 ghost use Rattle.model.specs.Numbering.{size};
 ghost use Rattle.table.specs.Decoded.{net_of};
 ghost use Rattle.tally.specs.Having.{one_at};
-ghost use Rattle.segments.specs.Ranges.{ranged, within, owner_of, alone_of, joined_of, choices_at, chosen_from, Choosing, event_at, added, size_if, Known, Owned, Ranges};
+ghost use Rattle.segments.specs.Ranges.{ranged, within, alone_of, joined_of, choices_at, chosen_from, Choosing, event_at, added, size_if, Known, Owned, Ranges};
+
+use unfolding::Coloured;
 
 // The numbers that one condition of the table adds to a list: one range, then another.
 #[derive(Clone, Copy)]
@@ -18,27 +20,6 @@ pub struct Segment {
     pub size: u32,
     pub next: u32,
     pub more: u32,
-}
-
-// What the number of an unfolded event names: an event, where its record stands, how many colours it has, and which of them it is.
-#[derive(Clone, Copy)]
-pub struct Owner {
-    pub event: usize,
-    pub at: usize,
-    pub weight: u32,
-    pub rest: u32,
-}
-
-// What such a number names, from its parts.
-pub fn own(event: usize, at: usize, weight: u32, rest: u32) -> Owner
-    ensures { result ≡ owner_of event at weight rest }
-{
-    Owner {
-        event,
-        at,
-        weight,
-        rest,
-    }
 }
 
 // How many choices condition b leaves to a colour: its markers, or one where it is ordinary.
@@ -138,7 +119,7 @@ fn segment_at<'a>(
     pre: &'a [u8],
     members: &'a [u32],
     post: bool,
-    own: Owner,
+    own: Coloured,
     b: usize,
 ) -> Segment
     requires known { Known table.now users.now bases.now marks.now uses.now chosen.now pre.now members.now post own.event own.rest }
@@ -181,7 +162,7 @@ fn lay<'a>(
     pre: &'a [u8],
     members: &'a [u32],
     post: bool,
-    own: Owner,
+    own: Coloured,
     starts: &mut [u32],
     sizes: &mut [u32],
 )
@@ -207,7 +188,7 @@ pub fn ranges<'a>(
     markers: &'a [u32],
     users: &'a [u32],
     bases: &'a [u32],
-    own: Owner,
+    own: Coloured,
     post: bool,
     starts: &mut [u32],
     sizes: &mut [u32],

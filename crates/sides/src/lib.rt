@@ -9,7 +9,8 @@ ghost use Rattle.segments.specs.Ranges.{ranged, within, event_at};
 ghost use Rattle.sides.specs.Sides.{added_on, parted_of, Sided};
 ghost use Rattle.sides.specs.Shares.{share_of, share_at, side_of, Sharing};
 
-use segments::{Owner, Segment};
+use segments::Segment;
+use unfolding::Coloured;
 
 // What an unfolded event does: it takes, it fills what it did not take, it puts, it empties what it does not put back; under the old rule
 // what is both is filled and emptied too.
@@ -150,7 +151,7 @@ pub fn lay_side<'a>(
     before: &'a [u32],
     after: &'a [u32],
     side: Side,
-    own: Owner,
+    own: Coloured,
     shift: u32,
     starts: &mut [u32],
     sizes: &mut [u32],

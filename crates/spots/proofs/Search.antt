@@ -9,9 +9,9 @@ use Rattle.model.specs.Numbering.{event_count}
 use Rattle.table.specs.Decoded.{net_of}
 use Rattle.layout.specs.Laid.{Laid}
 use Rattle.unfolding.specs.Numbers.{Belongs}
-use Rattle.unfolding.specs.declared.Found.{Found}
-use Rattle.unfolding.specs.declared.Found.TheVariants as found
-use Rattle.segments.specs.declared.Owner.{Owner}
+use Rattle.std.specs.Prelude.{Option as Perhaps}
+use Rattle.std.specs.Prelude.{None, Some}
+use Rattle.unfolding.specs.declared.Coloured.{Coloured}
 use Rattle.arcs.proofs.Counts.{arcs_few}
 use Rattle.arcs.specs.Arcs.{arcs_at, Arcs, Shared}
 use Rattle.spots.specs.declared.Reached.{Reached}
@@ -21,7 +21,7 @@ use Rattle.spots.proofs.Ranges.{sum_most, sizes_whole}
 use Rattle.spots.proofs.Spots.{before_low, owned_low, due_owned, due_open, due_next, due_past}
 
 module _ {s ms us bs marks uses starts sizes : List ℕ} (wanted : ℕ) where
-  pub reaches_none : (f : Found) (t b : ℕ) → f ≡ found.Past → Due s ms us bs marks uses starts sizes f t b → b ≤ wanted → (r : Reached) → r ≡ at_none b
+  pub reaches_none : (f : Perhaps Coloured) (t b : ℕ) → f ≡ None → Due s ms us bs marks uses starts sizes f t b → b ≤ wanted → (r : Reached) → r ≡ at_none b
       → Reaches s ms us bs wanted marks uses starts sizes r
   reaches_none f t b e d low r z =
       subst (λ (x : Reached). Reaches s ms us bs wanted marks uses starts sizes x) (sym z) (record {
@@ -31,7 +31,7 @@ module _ {s ms us bs marks uses starts sizes : List ℕ} (wanted : ℕ) where
         whole = λ h. omega (arith, due_past f t b e d);
       })
 
-  module _ {own : Owner} {t b : ℕ} (d : Due s ms us bs marks uses starts sizes (found_by own) t b) where
+  module _ {own : Coloured} {t b : ℕ} (d : Due s ms us bs marks uses starts sizes (found_by own) t b) where
     pub due_low : t < event_count (net_of s)
     due_low = omega (arith, d.belongs.left, owned_low (due_owned d))
 
@@ -51,7 +51,7 @@ module _ {s ms us bs marks uses starts sizes : List ℕ} (wanted : ℕ) where
       reaches_here low high =
           record { opened = λ _. due_open d marks' uses' starts' sizes' h a; holds = λ _. told; from = low; whole = λ l. absurd (omega arith) }
 
-      pub reaches_on : b + arcs ≤ wanted → (f : Found) → Belongs s (suc (transition_of (net_of s) own)) f
+      pub reaches_on : b + arcs ≤ wanted → (f : Perhaps Coloured) → Belongs s (suc (transition_of (net_of s) own)) f
           → Due s ms us bs marks' uses' starts' sizes' f (t + 1) (b + arcs) × (b + arcs ≤ wanted)
       reaches_on low f q = (due_next (due_open d marks' uses' starts' sizes' h a) d.table f q (b + arcs) (ap (λ (x : ℕ). b + x) told), low)
 
@@ -104,7 +104,7 @@ module _ {s ms us bs marks uses starts sizes : List ℕ} {wanted : ℕ} {r : Rea
     pub reached_spot : (p : Spot) → Held sizes r wanted p → Spotted s ms us bs marks uses starts sizes p
     reached_spot p h =
         let o = w.opened some_arc in
-        let o' = subst (λ (x : Owner). Open s ms us bs marks uses starts sizes x r.transition r.before) (sym h.owned) o in
+        let o' = subst (λ (x : Coloured). Open s ms us bs marks uses starts sizes x r.transition r.before) (sym h.owned) o in
         record {
           before = r.before;
           opened = subst (λ (x : ℕ). Open s ms us bs marks uses starts sizes p.own x r.before) (sym h.opened) o';

@@ -21,10 +21,10 @@ use Rattle.records.specs.Records.{conditions}
 use Rattle.layout.proofs.Counts.{sum_part, sum_next}
 use Rattle.unfolding.specs.Numbers.{Belongs}
 use Rattle.unfolding.specs.Numbers as numbers
-use Rattle.unfolding.specs.declared.Found.{Found}
-use Rattle.unfolding.specs.declared.Found.TheVariants as found
+use Rattle.std.specs.Prelude.{Option as Perhaps}
+use Rattle.std.specs.Prelude.{None, Some}
 use Rattle.unfolding.proofs.Numbered.{events_basic}
-use Rattle.segments.specs.declared.Owner.{Owner}
+use Rattle.unfolding.specs.declared.Coloured.{Coloured}
 use Rattle.segments.specs.Ranges.{owner_of, Owned}
 use Rattle.segments.proofs.Listed.{all_conditions}
 use Rattle.doubled.specs.Doubling.{doubled}
@@ -61,12 +61,12 @@ unfolding exported doubled
 all_transitions n = events_basic n
 
 module _ {s ms us bs : List ℕ} where
-  pub owner_at : {own : Owner} → Owned s ms us bs own.event own.at own.weight own.rest
+  pub owner_at : {own : Coloured} → Owned s ms us bs own.event own.at own.weight own.rest
       → numbers.Owner s (transition_of (net_of s) own) own.event own.at own.rest own.weight
   owner_at o = record { event = o.event; offset = o.offset; left = refl; whole = o.whole; below = o.below }
 
   -- a transition that is owned is among all
-  pub owned_low : {own : Owner} → Owned s ms us bs own.event own.at own.weight own.rest → transition_of (net_of s) own < event_count (net_of s)
+  pub owned_low : {own : Coloured} → Owned s ms us bs own.event own.at own.weight own.rest → transition_of (net_of s) own < event_count (net_of s)
   unfolding event_count
   owned_low {own} o = omega (arith, sum_part (size (net_of s)) (net_of s).events own.event o.event, o.whole, o.below)
 
@@ -76,19 +76,19 @@ module _ {s ms us bs : List ℕ} where
   module _ {marks uses starts sizes : List ℕ} where
     -- ---- a transition opened
 
-    pub due_owned : {own : Owner} {t b : ℕ} → Due s ms us bs marks uses starts sizes (found_by own) t b → Owned s ms us bs own.event own.at own.weight own.rest
+    pub due_owned : {own : Coloured} {t b : ℕ} → Due s ms us bs marks uses starts sizes (found_by own) t b → Owned s ms us bs own.event own.at own.weight own.rest
     due_owned d =
         record { laid = d.table.laid; event = d.belongs.event; offset = d.belongs.offset; whole = d.belongs.whole; below = d.belongs.below }
 
-    pub due_ranges : {own : Owner} {t b : ℕ} → Due s ms us bs marks uses starts sizes (found_by own) t b → (m : ℕ) → m ≡ 8 * conditions s → (m ≡ 8 * (net_of s).conditions) × (m ≤ 2048)
+    pub due_ranges : {own : Coloured} {t b : ℕ} → Due s ms us bs marks uses starts sizes (found_by own) t b → (m : ℕ) → m ≡ 8 * conditions s → (m ≡ 8 * (net_of s).conditions) × (m ≤ 2048)
     due_ranges d m z =
         let all = all_conditions (due_owned d) in
         (omega arith, omega (arith, d.table.laid.counted.marked.limits.few_conditions))
 
-    pub due_lent : {own : Owner} {t b : ℕ} → Due s ms us bs marks uses starts sizes (found_by own) t b → Lent s own.event own.rest marks uses
+    pub due_lent : {own : Coloured} {t b : ℕ} → Due s ms us bs marks uses starts sizes (found_by own) t b → Lent s own.event own.rest marks uses
     due_lent {own} d = record { in_marks = d.sized.in_marks; in_uses = d.sized.in_uses; shared = λ h. d.lent own.event own.at own.rest own.weight refl h }
 
-    pub due_open : {own : Owner} {t b : ℕ} → Due s ms us bs marks uses starts sizes (found_by own) t b → (marks' uses' starts' sizes' : List ℕ)
+    pub due_open : {own : Coloured} {t b : ℕ} → Due s ms us bs marks uses starts sizes (found_by own) t b → (marks' uses' starts' sizes' : List ℕ)
         → Shared s own.event marks' uses' → Arcs (net_of s) (transition_of (net_of s) own) starts' sizes' → Open s ms us bs marks' uses' starts' sizes' own t b
     due_open {own} {t} {b} d marks' uses' starts' sizes' h a =
         record {
@@ -101,7 +101,7 @@ module _ {s ms us bs : List ℕ} where
 
     -- ---- the next transition
 
-    module _ {own : Owner} {t b : ℕ} (o : Open s ms us bs marks uses starts sizes own t b) where
+    module _ {own : Coloured} {t b : ℕ} (o : Open s ms us bs marks uses starts sizes own t b) where
       pub open_sized : Sized marks uses starts sizes
       open_sized =
           record {
@@ -120,12 +120,12 @@ module _ {s ms us bs : List ℕ} where
           go (yes x) (no y) = absurd (omega (arith, sum_part (size (net_of s)) own.event e (omega arith)))
           go (no x) d = absurd (omega (arith, sum_part (size (net_of s)) e own.event (omega arith), o.owned.whole, o.owned.below))
 
-      next_shared : (f : Found) → Belongs s (suc (transition_of (net_of s) own)) f → (e at rest weight : ℕ) → f ≡ found.At e at rest weight → 0 < rest → Shared s e marks uses
+      next_shared : (f : Perhaps Coloured) → Belongs s (suc (transition_of (net_of s) own)) f → (e at rest weight : ℕ) → f ≡ Some e at rest weight → 0 < rest → Shared s e marks uses
       next_shared f q e at rest weight z h =
-          let w = subst (λ (x : Found). Belongs s (suc (transition_of (net_of s) own)) x) z q in
+          let w = subst (λ (x : Perhaps Coloured). Belongs s (suc (transition_of (net_of s) own)) x) z q in
           subst (λ (i : ℕ). Shared s i marks uses) (same_event_lem e rest w.left (omega (arith, w.whole, w.below)) h) o.shared
 
-      pub due_next : Unfolds s ms us bs (net_of s).events → (f : Found) → Belongs s (suc (transition_of (net_of s) own)) f → (b' : ℕ) → b' ≡ b + arcs_at (net_of s) t
+      pub due_next : Unfolds s ms us bs (net_of s).events → (f : Perhaps Coloured) → Belongs s (suc (transition_of (net_of s) own)) f → (b' : ℕ) → b' ≡ b + arcs_at (net_of s) t
           → Due s ms us bs marks uses starts sizes f (t + 1) b'
       due_next u f q b' z =
           record {
@@ -138,18 +138,18 @@ module _ {s ms us bs : List ℕ} where
           }
 
     -- past the last transition all arcs were counted
-    pub due_past : (f : Found) (t b : ℕ) → f ≡ found.Past → Due s ms us bs marks uses starts sizes f t b → b ≡ arc_count (net_of s)
+    pub due_past : (f : Perhaps Coloured) (t b : ℕ) → f ≡ None → Due s ms us bs marks uses starts sizes f t b → b ≡ arc_count (net_of s)
     due_past f t b e d =
-        let past : event_count (net_of s) ≤ t = subst (λ (x : Found). Belongs s t x) e d.belongs in
+        let past : event_count (net_of s) ≤ t = subst (λ (x : Perhaps Coloured). Belongs s t x) e d.belongs in
         let z : t ≡ (exported (net_of s)).transitions = omega (arith, past, d.within, all_transitions (net_of s)) in
         d.counted ∙ ap (arcs_before (net_of s)) z
 
-    pub due_by : (f : Found) (t b e at rest weight : ℕ) → f ≡ found.At e at rest weight → (own : Owner) → own ≡ owner_of e at weight rest
+    pub due_by : (f : Perhaps Coloured) (t b e at rest weight : ℕ) → f ≡ Some e at rest weight → (own : Coloured) → own ≡ owner_of e at weight rest
         → Due s ms us bs marks uses starts sizes f t b → Due s ms us bs marks uses starts sizes (found_by own) t b
     due_by f t b e at rest weight z own q d =
-        subst (λ (x : Found). Due s ms us bs marks uses starts sizes x t b) (z ∙ sym (ap found_by q)) d
+        subst (λ (x : Perhaps Coloured). Due s ms us bs marks uses starts sizes x t b) (z ∙ sym (ap found_by q)) d
 
-    pub due_first : (events : ℕ) → Unfolds s ms us bs events → Sized marks uses starts sizes → (f : Found) → Belongs s 0 f → Due s ms us bs marks uses starts sizes f 0 0
+    pub due_first : (events : ℕ) → Unfolds s ms us bs events → Sized marks uses starts sizes → (f : Perhaps Coloured) → Belongs s 0 f → Due s ms us bs marks uses starts sizes f 0 0
     due_first events u z f q =
         record {
           table = unfolds_all u;
@@ -157,17 +157,17 @@ module _ {s ms us bs : List ℕ} where
           belongs = q;
           within = omega arith;
           counted = refl;
-          lent = λ e at rest weight p h. absurd (let w = subst (λ (x : Found). Belongs s 0 x) p q in omega (arith, w.left));
+          lent = λ e at rest weight p h. absurd (let w = subst (λ (x : Perhaps Coloured). Belongs s 0 x) p q in omega (arith, w.left));
         }
 
     -- ---- the spots of an open transition
 
-    open_some : {own : Owner} {t b : ℕ} → Open s ms us bs marks uses starts sizes own t b → Unfolds s ms us bs (net_of s).events → 0 < arcs_at (net_of s) t
+    open_some : {own : Coloured} {t b : ℕ} → Open s ms us bs marks uses starts sizes own t b → Unfolds s ms us bs (net_of s).events → 0 < arcs_at (net_of s) t
     open_some {own} {t} o u =
         let f = unfolds_fine s (u.unfolds (Ok 0)) in
         arcs_some s f.0 f.1 f.2 t (omega (arith, o.told, owned_low o.owned, events_basic (net_of s)))
 
-    pub spot_first : {own : Owner} {t b : ℕ} → Open s ms us bs marks uses starts sizes own t b → Unfolds s ms us bs (net_of s).events → (k r : ℕ) → k ≡ 8 * (net_of s).conditions → Skips sizes k 0 r
+    pub spot_first : {own : Coloured} {t b : ℕ} → Open s ms us bs marks uses starts sizes own t b → Unfolds s ms us bs (net_of s).events → (k r : ℕ) → k ≡ 8 * (net_of s).conditions → Skips sizes k 0 r
         → Spotted s ms us bs marks uses starts sizes (record { own = own; transition = t; number = b; range = r; offset = 0 })
     spot_first {own} {t} {b} o u m r q k =
         let has : 0 < arcs_at (net_of s) t = open_some o u in

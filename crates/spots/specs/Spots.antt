@@ -8,9 +8,9 @@ use Rattle.table.specs.Decoded.{net_of}
 use Rattle.layout.specs.Laid.{Laid}
 use Rattle.layout.specs.Unfolds.{unfolding_of}
 use Rattle.unfolding.specs.Numbers.{Belongs}
-use Rattle.unfolding.specs.declared.Found.{Found}
-use Rattle.unfolding.specs.declared.Found.TheVariants as found
-use Rattle.segments.specs.declared.Owner.{Owner}
+use Rattle.std.specs.Prelude.{Option as Perhaps}
+use Rattle.std.specs.Prelude.{None, Some}
+use Rattle.unfolding.specs.declared.Coloured.{Coloured}
 use Rattle.segments.specs.Ranges.{owner_of, Owned}
 use Rattle.arcs.specs.Arcs.{exported, arcs_at, arcs_before, Arcs, Shared}
 use Rattle.spots.specs.declared.Spot.{Spot}
@@ -19,7 +19,7 @@ use Rattle.spots.specs.declared.Next.{Next}
 use Rattle.spots.specs.declared.Next.TheVariants.{At, Past}
 
 -- The transition that what is left of an event's number names (02, No. 1).
-abbrev pub transition_of : Net → Owner → ℕ
+abbrev pub transition_of : Net → Coloured → ℕ
 transition_of n own = sum (size n) own.event + own.rest
 
 -- How many arcs an export has (02, No. 1).
@@ -33,7 +33,7 @@ sizes_before sizes r = sum (λ i. get_or sizes i 0) r
 -- ---- a transition that is open
 
 -- The lent numbers and ranges are those of a transition, whose arcs come after so many others (02, No. 1).
-pub record Open (s ms us bs marks uses starts sizes : List ℕ) (own : Owner) (transition before : ℕ) : Type 0 where
+pub record Open (s ms us bs marks uses starts sizes : List ℕ) (own : Coloured) (transition before : ℕ) : Type 0 where
   pub owned : Owned s ms us bs own.event own.at own.weight own.rest
   pub shared : Shared s own.event marks uses
   pub arcs : Arcs (net_of s) transition starts sizes
@@ -75,17 +75,17 @@ pub record Unfolds (s ms us bs : List ℕ) (events : ℕ) : Type 0 where
 
 -- A transition that is due: its owner or that there is none, how many arcs come before its own, and lent memory that may be that of the
 -- transition before it (02, No. 1).
-pub record Due (s ms us bs marks uses starts sizes : List ℕ) (f : Found) (transition before : ℕ) : Type 0 where
+pub record Due (s ms us bs marks uses starts sizes : List ℕ) (f : Perhaps Coloured) (transition before : ℕ) : Type 0 where
   pub table : Unfolds s ms us bs (net_of s).events
   pub sized : Sized marks uses starts sizes
   pub belongs : Belongs s transition f
   pub within : transition ≤ event_count (net_of s)
   pub counted : before ≡ arcs_before (net_of s) transition
-  pub lent : (e at rest weight : ℕ) → f ≡ found.At e at rest weight → 0 < rest → Shared s e marks uses
+  pub lent : (e at rest weight : ℕ) → f ≡ Some e at rest weight → 0 < rest → Shared s e marks uses
 
 -- What the number of an unfolded event names, as it is found (01, Unfolding).
-abbrev pub found_by : Owner → Found
-found_by own = found.At own.event own.at own.rest own.weight
+abbrev pub found_by : Coloured → Perhaps Coloured
+found_by own = Some own.event own.at own.rest own.weight
 
 -- The arc with a number, or that there is none and the number is that of all arcs (02, No. 1).
 abbrev pub Reads : List ℕ → List ℕ → List ℕ → List ℕ → List ℕ → List ℕ → List ℕ → List ℕ → ℕ → Next → Type 0

@@ -5,14 +5,13 @@ ghost use Rattle.std.specs.Prelude.{◌≡◌, ◌+◌, ◌*◌, ◌≤◌, ◌<
 ghost use Rattle.records.specs.Records.{conditions};
 ghost use Rattle.spots.specs.Spots.{found_by, moved_to, at_none, Spotted, Skips, Sized, Unfolds, Due, Reads, Reaches, Holding, Held};
 
-use segments::Owner;
-use unfolding::Found;
+use unfolding::Coloured;
 
 // Where an arc of an export stands: the unfolded event that is its transition and that one's number, its own number among all arcs, and
 // its range of places with an offset into it.
 #[derive(Clone, Copy)]
 pub struct Spot {
-    pub own: Owner,
+    pub own: Coloured,
     pub transition: usize,
     pub number: usize,
     pub range: usize,
@@ -29,7 +28,7 @@ pub enum Next {
 // Where a search for an arc ends: the transition that was opened last, how many arcs come before its own, and how many it has.
 #[derive(Clone, Copy)]
 pub struct Reached {
-    pub own: Owner,
+    pub own: Coloured,
     pub transition: usize,
     pub before: usize,
     pub arcs: usize,
@@ -78,7 +77,7 @@ fn open_spot<'a>(
     markers: &'a [u32],
     users: &'a [u32],
     bases: &'a [u32],
-    own: Owner,
+    own: Coloured,
     transition: usize,
     number: usize,
     marks: &mut [u32],
@@ -108,7 +107,7 @@ fn spot_from<'a>(
     markers: &'a [u32],
     users: &'a [u32],
     bases: &'a [u32],
-    found: Found,
+    found: Option<Coloured>,
     transition: usize,
     number: usize,
     marks: &mut [u32],
@@ -119,10 +118,9 @@ fn spot_from<'a>(
     requires { Due table.now markers.now users.now bases.now marks.old uses.old starts.old sizes.old found transition number }
     ensures { Reads table.now markers.now users.now bases.now marks.new uses.new starts.new sizes.new number result }
 {
-    let Found::At(event, at, rest, weight) = found else {
+    let Some(own) = found else {
         return Next::Past;
     };
-    let own = segments::own(event, at, weight, rest);
     let spot = open_spot(
         table, markers, users, bases, own, transition, number, marks, uses, starts, sizes,
     );
@@ -204,11 +202,10 @@ pub fn reach<'a>(
     let mut transition: usize = 0;
     let mut before: usize = 0;
     loop {
-        let Found::At(event, at, rest, weight) = found else {
+        let Some(own) = found else {
             return nowhere(before);
         };
-        let own = segments::own(event, at, weight, rest);
-        let arcs = arcs::open_transition(
+            let arcs = arcs::open_transition(
             table, markers, users, bases, own, marks, uses, starts, sizes,
         );
         if wanted < before + arcs {

@@ -9,7 +9,7 @@ ghost use Rattle.unfolded_lists.specs.Calls.{unfolded_list_of, unfolded_listed_o
 ghost use Rattle.unfolded_lists.specs.Puts.{Small, Fits};
 
 use refusal::{Refusal, UnfoldedEvent};
-use unfolding::Found;
+use unfolding::Coloured;
 
 // The numbers of one range, put into a lent output from an element on.
 fn put_range(first: u32, size: u32, at: usize, out: &mut [u16])
@@ -49,11 +49,9 @@ fn write_list(table: &[u8], j: UnfoldedEvent, post: bool, out: &mut [u16]) -> Re
     let mut bases = [0u32; 257];
     let events = layout::lay_out(table, &mut markers, &mut users, &mut bases)?;
     let wanted = j.0 as u32;
-    let f = unfolding::owner(table, events, &markers, wanted);
-    let Found::At(e, at, rest, weight) = f else {
+    let Some(own) = unfolding::owner(table, events, &markers, wanted) else {
         return refusal::refused(10, 0);
     };
-    let own = segments::own(e, at, weight, rest);
     let mut starts = [0u32; 512];
     let mut sizes = [0u32; 512];
     let k = segments::ranges(

@@ -1,5 +1,5 @@
 -- What the walks over a table tell: which event a number belongs to, which lists of markers are its colours, and markers as numbers.
-use Rattle.std.specs.Prelude.{ℕ, zero, suc, ◌+◌, ◌≤◌, ◌<◌, ◌≡◌, Bool, true, false, ◌&&◌, List, [], ◌∷◌, map, ltb, length}
+use Rattle.std.specs.Prelude.{Option, None, Some, ℕ, zero, suc, ◌+◌, ◌≤◌, ◌<◌, ◌≡◌, Bool, true, false, ◌&&◌, List, [], ◌∷◌, map, ltb, length}
 use Rattle.lists.specs.Lists.{index, keep, sum}
 use Rattle.model.specs.Runs.{Marker, at_start, by_event}
 use Rattle.model.specs.Unfolding.{same_marker, markers}
@@ -8,8 +8,7 @@ use Rattle.model.specs.Across.{most_unfolded}
 use Rattle.table.specs.Walk.{offset_of}
 use Rattle.table.specs.Decoded.{net_of}
 use Rattle.layout.specs.Laid.{Marked}
-use Rattle.unfolding.specs.declared.Found.{Found}
-use Rattle.unfolding.specs.declared.Found.TheVariants.{At, Past}
+use Rattle.unfolding.specs.declared.Coloured.{Coloured}
 
 -- A table's markers are counted, and its unfolded events are within the limit (01, Unfolding).
 pub record Within (s ms : List ℕ) (events : ℕ) : Type 0 where
@@ -26,9 +25,9 @@ pub record Owner (s : List ℕ) (j e at rest weight : ℕ) : Type 0 where
   pub below : rest < weight
 
 -- A number belongs to an event, or is past the last (01, Unfolding).
-abbrev pub Belongs : List ℕ → ℕ → Found → Type 0
-Belongs s j (At e at rest weight) = Owner s j e at rest weight
-Belongs s j Past = event_count (net_of s) ≤ j
+abbrev pub Belongs : List ℕ → ℕ → Option Coloured → Type 0
+Belongs s j (Some own) = Owner s j own.event own.at own.rest own.weight
+Belongs s j None = event_count (net_of s) ≤ j
 
 -- The lists of markers of the persistent ones in a list of conditions (01, Unfolding).
 abbrev pub choices_of : List ℕ → List ℕ → List (List Marker)

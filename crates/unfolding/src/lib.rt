@@ -14,11 +14,13 @@ ghost use Rattle.unfolding.specs.Numbers.{Within, Belongs, code, told};
 
 use refusal::{Marker, Refusal, TableEvent};
 
-// The event that a number belongs to, its offset, what is left of the number, and its number of colours.
+// What the number of an unfolded event names: an event, where its record stands, how many colours it has, and which of them it is.
 #[derive(Clone, Copy)]
-pub enum Found {
-    At(usize, usize, u32, u32),
-    Past,
+pub struct Coloured {
+    pub event: usize,
+    pub at: usize,
+    pub weight: u32,
+    pub rest: u32,
 }
 
 // The marker at a place among those of condition b, as a number: 0 for the start, else one more than its event.
@@ -67,8 +69,8 @@ pub fn marker_place(table: &[u8], events: usize, b: usize, m: Marker) -> usize
     1 + tally::place(table, events, true, b, wanted)
 }
 
-// The event that an unfolded event's number belongs to.
-pub fn owner<'a>(table: &'a [u8], events: usize, markers: &'a [u32], j: u32) -> Found
+// What an unfolded event's number names, if it is one.
+pub fn owner<'a>(table: &'a [u8], events: usize, markers: &'a [u32], j: u32) -> Option<Coloured>
     requires { Within table.now markers.now events }
     ensures { Belongs table.now j result }
 {
@@ -78,13 +80,18 @@ pub fn owner<'a>(table: &'a [u8], events: usize, markers: &'a [u32], j: u32) -> 
     while e < events {
         let weight = colours::colours(table, markers, tally::list_at(table, at, false));
         if rest < weight {
-            return Found::At(e, at, rest, weight);
+            return Some(Coloured {
+                event: e,
+                at,
+                weight,
+                rest,
+            });
         }
         rest = rest - weight;
         at = at + 4 + words::word(table, at) as usize;
         e = e + 1;
     }
-    Found::Past
+    None
 }
 
 // How many unfolded events the first events have.

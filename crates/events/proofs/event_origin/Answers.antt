@@ -1,52 +1,79 @@
 -- `events::event_origin` meets its contract.
+use Rattle.std.proofs.Common.{rules}
+use native.Mathlib.Omega.{arith}
+use mathlib.Core.Path.{◌≡◌, ◌∙◌}
 use lib.Dec.{ltb}
 use lib.ListN.{length}
+use Rattle.std.specs.Prelude.{Ok, Err}
 use Rattle.words.specs.Words.{words}
-use Rattle.unfolding.specs.Numbers.{choices_of, Belongs}
-use native.Mathlib.Omega.{arith}
-use mathlib.Core.Path.{◌∙◌, subst}
-use Rattle.std.specs.Prelude.{Ok}
 use Rattle.refusal.specs.Answer.{need}
 use Rattle.model.specs.Unfolding.{basic, origin}
 use Rattle.table.specs.Decoded.{net_of}
 use Rattle.layout.proofs.Limits.{unfolds_passed, unfolds_on}
-use Rattle.events.specs.Answers.{origin_judged}
-use Rattle.unfolding.specs.declared.Found.{Found}
+use Rattle.unfolding.specs.Numbers.{choices_of}
 use Rattle.unfolding.proofs.Owners.{within_laid}
+use Rattle.events.specs.Answers.{origin_judged}
 use Rattle.events.proofs.Calls.{choices_are, room_first, picking_first, origin_refused, origin_past, origin_found}
 use Rattle.events.proofs.event_origin.Goals as goal
 
-pub returns-in_default : goal.returns-in_default
+pub returns-in_err-events : goal.returns-in_err-events
 unfolding origin_judged
+returns-in_err-events c =
+    let s = c.args.table.now in
+    let own = need (ltb c.args.j.0 (basic (net_of s)).events) 10 0 (Ok (length (origin (net_of s) c.args.j.0).colour)) in
+    let told : c.from_residual.result ≡ Err c.in_err-events.field-0.0 = search rules in
+    told ∙ origin_refused s c.args.j.0 (unfolds_passed s own (net_of s).events c.lay_out.ensures.answer c.in_err-events.was) c.in_err-events.was
+
+pub owner-requires : goal.owner-requires
+owner-requires c =
+    let s = c.args.table.now in
+    let new = c.lay_out.new in
+    let events = c.in_ok-events.events in
+    let all = (unfolds_on s (Ok 0) (net_of s).events c.lay_out.ensures.answer c.in_ok-events.was).1 in
+    within_laid s new.markers new.users new.bases events (c.lay_out.ensures.laid events c.in_ok-events.was) all
+
+pub returns-in_default : goal.returns-in_default
 returns-in_default c =
-    let n = net_of c.args.table.now in
-    let own = need (ltb c.args.j.0 (basic n).events) 10 0 (Ok (length (origin n c.args.j.0).colour)) in
-    c.no_origin.ensures ∙ origin_refused c.args.table.now c.args.j.0 (unfolds_passed c.args.table.now own (net_of c.args.table.now).events c.lay_out-r.ensures.answer c.in_default.is) c.in_default.is
+    let s = c.args.table.now in
+    let laid = c.lay_out.ensures.answer in
+    c.refused.ensures ∙ origin_past s c.args.j.0 (λ own. (unfolds_on s own (net_of s).events laid c.in_ok-events.was).0) (rw c.in_default.is at c.owner.ensures)
 
-pub owner-f-requires : goal.owner-f-requires
-owner-f-requires c =
-    (within_laid c.args.table.now c.lay_out-r.new.markers c.lay_out-r.new.users c.lay_out-r.new.bases c.in-Ok.events (c.lay_out-r.ensures.laid c.in-Ok.events c.in-Ok.is) (unfolds_on c.args.table.now (Ok 0) (net_of c.args.table.now).events c.lay_out-r.ensures.answer c.in-Ok.is).1)
-
-pub returns-in_default-f : goal.returns-in_default-f
-returns-in_default-f c =
-    c.no_origin-in_default-f.ensures ∙ rw c.refused.ensures (origin_past c.args.table.now c.args.j.0 (λ own. (unfolds_on c.args.table.now own (net_of c.args.table.now).events c.lay_out-r.ensures.answer c.in-Ok.is).0) (subst (λ (x : Found). Belongs c.args.table.now c.args.j.0 x) c.in_default-f.is c.owner-f.ensures))
-
-pub colour_at-colour-requires : goal.colour_at-colour-requires
-colour_at-colour-requires c =
-    let within = within_laid c.args.table.now c.lay_out-r.new.markers c.lay_out-r.new.users c.lay_out-r.new.bases c.in-Ok.events (c.lay_out-r.ensures.laid c.in-Ok.events c.in-Ok.is) (unfolds_on c.args.table.now (Ok 0) (net_of c.args.table.now).events c.lay_out-r.ensures.answer c.in-Ok.is).1 in
-    let o = subst (λ (x : Found). Belongs c.args.table.now c.args.j.0 x) c.in-At.is c.owner-f.ensures in
+pub colour_at-requires : goal.colour_at-requires
+colour_at-requires c =
+    let s = c.args.table.now in
+    let new = c.lay_out.new in
+    let events = c.in_ok-events.events in
+    let all = (unfolds_on s (Ok 0) (net_of s).events c.lay_out.ensures.answer c.in_ok-events.was).1 in
+    let within = within_laid s new.markers new.users new.bases events (c.lay_out.ensures.laid events c.in_ok-events.was) all in
+    let own = c.in-Some.own in
+    let o = c.in-Some.ensures in
+    let pre = c.list_at-pre.result.now in
     record {
-      picking = picking_first c.args.table.now c.lay_out-r.new.markers c.in-Ok.events within c.in-At.e c.in-At.at o.event o.offset c.list_at.result.now c.list_at.ensures c.args.j.0 c.in-At.rest c.in-At.weight o;
-      pre_len_bound = room_first c.args.table.now c.lay_out-r.new.markers c.in-Ok.events within c.in-At.e c.in-At.at o.event o.offset c.list_at.result.now c.list_at.ensures;
+      picking = picking_first s new.markers events within own.event own.at o.event o.offset pre c.list_at-pre.ensures c.args.j.0 own.rest own.weight o;
+      pre_len_bound = room_first s new.markers events within own.event own.at o.event o.offset pre c.list_at-pre.ensures;
     }
 
 pub overflow_cast-result : goal.overflow_cast-result
 overflow_cast-result c =
-    let few = (within_laid c.args.table.now c.lay_out-r.new.markers c.lay_out-r.new.users c.lay_out-r.new.bases c.in-Ok.events (c.lay_out-r.ensures.laid c.in-Ok.events c.in-Ok.is) (unfolds_on c.args.table.now (Ok 0) (net_of c.args.table.now).events c.lay_out-r.ensures.answer c.in-Ok.is).1).marked.limits.few_events in
-    omega (arith, (subst (λ (x : Found). Belongs c.args.table.now c.args.j.0 x) c.in-At.is c.owner-f.ensures).event)
+    let s = c.args.table.now in
+    let new = c.lay_out.new in
+    let events = c.in_ok-events.events in
+    let all = (unfolds_on s (Ok 0) (net_of s).events c.lay_out.ensures.answer c.in_ok-events.was).1 in
+    let within = within_laid s new.markers new.users new.bases events (c.lay_out.ensures.laid events c.in_ok-events.was) all in
+    omega (arith, within.marked.limits.few_events, c.in-Some.ensures.event)
 
 pub returns : goal.returns
 returns c =
-    let within = within_laid c.args.table.now c.lay_out-r.new.markers c.lay_out-r.new.users c.lay_out-r.new.bases c.in-Ok.events (c.lay_out-r.ensures.laid c.in-Ok.events c.in-Ok.is) (unfolds_on c.args.table.now (Ok 0) (net_of c.args.table.now).events c.lay_out-r.ensures.answer c.in-Ok.is).1 in
-    let o = subst (λ (x : Found). Belongs c.args.table.now c.args.j.0 x) c.in-At.is c.owner-f.ensures in
-    origin_found c.args.table.now c.args.j.0 (λ own. (unfolds_on c.args.table.now own (net_of c.args.table.now).events c.lay_out-r.ensures.answer c.in-Ok.is).0) c.in-At.e c.in-At.rest o.event (rw (← o.whole) o.below) o.left (choices_of c.args.table.now (words c.list_at.result.now)) (choices_are c.args.table.now c.lay_out-r.new.markers c.in-Ok.events within c.in-At.e c.in-At.at o.event o.offset c.list_at.result.now c.list_at.ensures) c.colour_at-colour.result c.colour_at-colour.ensures
+    let s = c.args.table.now in
+    let j = c.args.j.0 in
+    let new = c.lay_out.new in
+    let events = c.in_ok-events.events in
+    let laid = c.lay_out.ensures in
+    let all = (unfolds_on s (Ok 0) (net_of s).events laid.answer c.in_ok-events.was).1 in
+    let within = within_laid s new.markers new.users new.bases events (laid.laid events c.in_ok-events.was) all in
+    let own = c.in-Some.own in
+    let o = c.in-Some.ensures in
+    let pre = c.list_at-pre.result.now in
+    let mss = choices_of s (words pre) in
+    let is = choices_are s new.markers events within own.event own.at o.event o.offset pre c.list_at-pre.ensures in
+    origin_found s j (λ own. (unfolds_on s own (net_of s).events laid.answer c.in_ok-events.was).0) own.event own.rest o.event (rw (← o.whole) o.below) o.left mss is _ c.colour_at.ensures

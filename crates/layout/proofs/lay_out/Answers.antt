@@ -13,7 +13,7 @@ use Rattle.layout.proofs.lay_out.Goals as goal
 pub returns-in_err-events : goal.returns-in_err-events
 returns-in_err-events c =
     let same : c.from_residual.result ≡ c.judge.result = search rules in
-    record { answer = same ∙ table_refused c.args.table.now (Ok (net_of c.args.table.now).events) c.judge.ensures c.in_err-events.was; laid = λ k e. never_both (sym e ∙ c.in_err-events.was) }
+    record { answer = same ∙ table_refused c.args.table.now (Ok (net_of c.args.table.now).events) c.judge.ensures c.in_err-events.was; laid = λ k e. never_both (sym e ∙ same ∙ c.in_err-events.was) }
 
 pub tally-requires : goal.tally-requires
 tally-requires c =

@@ -27,7 +27,7 @@ returns-in_err-total c =
     let s = c.args.table.now in
     let j = c.requires.table_value in
     let k = c.args.events in
-    record { answer = same ∙ idle_refused s (Ok (net_of s).events) k j c.events_judged.ensures c.in_err-total.was; laid = λ k e. never_both (sym e ∙ c.in_err-total.was) }
+    record { answer = same ∙ idle_refused s (Ok (net_of s).events) k j c.events_judged.ensures c.in_err-total.was; laid = λ k e. never_both (sym e ∙ same ∙ c.in_err-total.was) }
 
 pub returns-then-number-gt-MOST_UNFOLDED : goal.returns-then-number-gt-MOST_UNFOLDED
 returns-then-number-gt-MOST_UNFOLDED c =

@@ -19,7 +19,7 @@ loop-i-preserved c =
     let ws = c.args.words.now in
     let i : ℕ = loop.i in
     let value = pick_at ws i c.loop-i-test.true in
-    let step = store_next loop.picks (picks_for ws) i i (record { 0 = Start }) (omega (arith, picks_long ws, c.loop-i-test.true)) in
+    let step = store_next loop.picks (picks_for ws) i i Start (omega (arith, picks_long ws, c.loop-i-test.true)) in
     (simp length-set loop.invariant.0, rw (c.marker_of-m.ensures, c.word_at.ensures, ← value, ← step) loop.invariant.1)
 
 pub returns : goal.returns
