@@ -3,7 +3,7 @@ use Prim.Native.Nat.{ℕ, ◌+◌, ◌*◌, ◌-◌, ◌/◌, ◌%◌, ◌≤◌
 use native.Mathlib.Omega.{arith}
 use native.Mathlib.Numerals.{add-one}
 use native.Mathlib.Nat.{div-lt_iff_lt-mul}
-use mathlib.Core.Path.{◌≡◌, sym, ap, ◌∙◌, subst}
+use mathlib.Core.Path.{◌≡◌, refl, sym, ap, ◌∙◌, subst}
 use mathlib.Core.Bool.{Bool, true, false}
 use mathlib.Core.Option.{some}
 use mathlib.Core.List.{List}
@@ -20,7 +20,7 @@ use Rattle.model.proofs.Counts.{count_conditions, ordinary_from, copy_from}
 use Rattle.refusal.specs.declared.Refusal.{Refusal}
 use Rattle.refusal.specs.declared.Marker as declared
 use Rattle.refusal.specs.Answer.{Judged}
-use Rattle.std.specs.Prelude.{Ok, Err}
+use Rattle.std.specs.Prelude.{Result, Ok, Err}
 use Rattle.refusal.specs.Answer.{refused_at, need}
 use Rattle.refusal.proofs.Chain.{need_passes, need_refuses}
 use Rattle.table.specs.Decoded.{net_of}
@@ -34,6 +34,7 @@ use Rattle.layout.proofs.Limits.{unfolds_passed, unfolds_on, unfolds_judged}
 use Rattle.unfolding.proofs.Places.{kept_below}
 use Rattle.records.specs.Records.{conditions}
 use Rattle.unfolding.specs.Markers.{shown}
+use Rattle.conditions.specs.declared.ConditionOrigin.{ConditionOrigin}
 use Rattle.conditions.specs.declared.ConditionOrigin.TheVariants as show
 use Rattle.conditions.specs.Origins.{condition_at, condition_judged, told, told_if, condition_origin_of}
 use Rattle.conditions.specs.Owners.{Owns}
@@ -50,26 +51,26 @@ next_sum f b i h = rw add-one h
 -- ---- what is told
 
 module _ (s : List ℕ) (i : ℕ) where
-  pub told_refused : {r : Judged} {x : Refusal} → r ≡ condition_judged s i → r ≡ Err x → told_if r (ordinary 0) ≡ condition_origin_of s i
+  pub told_refused : {r : Judged} {x : Refusal} → r ≡ condition_judged s i → r ≡ Err x → Err x ≡ condition_origin_of s i
   unfolding condition_origin_of
-  told_refused e t = ap (λ (a : Judged). told_if a (ordinary 0)) t ∙ sym (ap (λ (a : Judged). told_if a (condition_at (net_of s) i)) (sym e ∙ t))
+  told_refused e t = sym (ap (λ (a : Judged). told_if a (condition_at (net_of s) i)) (sym e ∙ t))
 
   module _ (u : (own : Judged) → unfolding_of s own ≡ own) where
-    pub told_past : condition_count (net_of s) ≤ i → (r : Judged) → r ≡ refused_at 10 0 → told_if r (ordinary 0) ≡ condition_origin_of s i
+    pub told_past : condition_count (net_of s) ≤ i → refused_at 10 0 ≡ condition_origin_of s i
     unfolding condition_judged basic
-    told_past h r q =
-        told_refused (q ∙ sym (u _ ∙ need_refuses 10 0 (Ok i) (le-ltb i (length (unfolded_conditions (net_of s))) (omega (arith, count_conditions (net_of s)))))) q
+    told_past h =
+        told_refused (sym (u _ ∙ need_refuses 10 0 (Ok i) (le-ltb i (length (unfolded_conditions (net_of s))) (omega (arith, count_conditions (net_of s)))))) refl
 
     -- what stands at the number
-    told_at : (p : UnfoldedCondition) → get_elem? (unfolded_conditions (net_of s)) i ≡ some p → told p ≡ condition_origin_of s i
+    told_at : (p : UnfoldedCondition) → get_elem? (unfolded_conditions (net_of s)) i ≡ some p → Ok (told p) ≡ condition_origin_of s i
     unfolding condition_origin_of condition_judged condition_at basic
     told_at p h =
         let low = lt-ltb i (length (unfolded_conditions (net_of s))) (at_lt (unfolded_conditions (net_of s)) i h) in
         let q : condition_judged s i ≡ Ok i = u _ ∙ need_passes 10 0 low in
-        sym (ap (λ (a : Judged). told_if a (condition_at (net_of s) i)) q ∙ ap told (at_get_d (unfolded_conditions (net_of s)) i (ordinary 0) h))
+        sym (ap (λ (a : Judged). told_if a (condition_at (net_of s) i)) q ∙ ap {B = Result ConditionOrigin Refusal} (λ (x : UnfoldedCondition). Ok (told x)) (at_get_d (unfolded_conditions (net_of s)) i (ordinary 0) h))
 
     module _ (b : ℕ) (h : b < (net_of s).conditions) (low : sum (width (net_of s)) b ≤ i) (high : i < sum (width (net_of s)) b + width (net_of s) b) where
-      pub told_ordinary : (net_of s).persistent b ≡ false → show.Ordinary (record { 0 = b }) ≡ condition_origin_of s i
+      pub told_ordinary : (net_of s).persistent b ≡ false → Ok (show.Ordinary (record { 0 = b })) ≡ condition_origin_of s i
       unfolding width
       told_ordinary p =
           let one : width (net_of s) b ≡ 1 = rw p in
@@ -92,7 +93,7 @@ module _ (s : List ℕ) (i : ℕ) where
 
         pub told_copy : (m : declared.Marker) → m ≡ shown (get_or (markers (net_of s) b) ((i - sum (width (net_of s)) b) / length (users (net_of s) b)) at_start)
             → (k v : ℕ) → k ≡ (net_of s).events → v ≡ get_or (having (net_of s) false b k) ((i - sum (width (net_of s)) b) % length (users (net_of s) b)) 0
-            → show.Copy (record { 0 = b }) m (record { 0 = v }) ≡ condition_origin_of s i
+            → Ok (show.Copy (record { 0 = b }) m (record { 0 = v })) ≡ condition_origin_of s i
         unfolding users
         told_copy m e k v q w =
             let r = i - sum (width (net_of s)) b in
@@ -105,7 +106,7 @@ module _ (s : List ℕ) (i : ℕ) where
 
 -- ---- the same once the table is laid out
 
-pub laid_refused : (s : List ℕ) (i : ℕ) {r : Judged} {x : Refusal} → r ≡ unfolding_of s (Ok (net_of s).events) → r ≡ Err x → told_if r (ordinary 0) ≡ condition_origin_of s i
+pub laid_refused : (s : List ℕ) (i : ℕ) {r : Judged} {x : Refusal} → r ≡ unfolding_of s (Ok (net_of s).events) → r ≡ Err x → Err x ≡ condition_origin_of s i
 unfolding condition_judged
 laid_refused s i e t = told_refused s i (unfolds_passed s (need (ltb i (basic (net_of s)).conditions) 10 0 (Ok i)) (net_of s).events e t) t
 
@@ -129,11 +130,11 @@ module _ (s ms us bases : List ℕ) (l : Laid s ms us bases) {r : Judged} (e : r
   owner_sums = (subst (λ (c : ℕ). Sums (width (net_of s)) c bases) (sym conditions_is_lem) l.sums, few_conditions)
 
   module _ (i b : ℕ) (o : Owns (width (net_of s)) w i b) where
-    pub number_past : w ≤ b → (a : Judged) → a ≡ refused_at 10 0 → told_if a (ordinary 0) ≡ condition_origin_of s i
+    pub number_past : w ≤ b → refused_at 10 0 ≡ condition_origin_of s i
     unfolding condition_count
-    number_past h a z =
+    number_past h =
         let top : b ≡ (net_of s).conditions = omega (arith, o.most, conditions_is_lem) in
-        told_past s i on (subst (λ (c : ℕ). sum (width (net_of s)) c ≤ i) top o.from) a z
+        told_past s i on (subst (λ (c : ℕ). sum (width (net_of s)) c ≤ i) top o.from)
 
     module _ (h : b < w) where
       below : b < (net_of s).conditions
@@ -142,7 +143,7 @@ module _ (s ms us bases : List ℕ) (l : Laid s ms us bases) {r : Judged} (e : r
       pub base_low : (x : ℕ) → x ≡ get_or bases b 0 → x ≤ i
       base_low x z = omega (arith, o.from, l.sums.at b (omega (arith, below)))
 
-      pub number_ordinary : (f : Bool) → f ≡ flagged s b → f ≡ false → show.Ordinary (record { 0 = b }) ≡ condition_origin_of s i
+      pub number_ordinary : (f : Bool) → f ≡ flagged s b → f ≡ false → Ok (show.Ordinary (record { 0 = b })) ≡ condition_origin_of s i
       number_ordinary f g z = told_ordinary s i on b below o.from (o.below h) (sym (l.counted.marked.flags b) ∙ sym g ∙ z)
 
       module _ (f : Bool) (g : f ≡ flagged s b) (z : f ≡ true) (x : ℕ) (c : x ≡ get_or bases b 0) (y : ℕ) (d : y ≡ get_or us b 0) where
@@ -162,7 +163,7 @@ module _ (s ms us bases : List ℕ) (l : Laid s ms us bases) {r : Judged} (e : r
         marker_low = rw (base_is, users_is) (place_low s i on b below o.from (o.below h) kept)
 
         pub number_copy : (m : declared.Marker) → m ≡ shown (get_or (markers (net_of s) b) ((i - x) / y) at_start) → (v : ℕ) → v ≡ get_or (having (net_of s) false b k) ((i - x) % y) 0
-            → show.Copy (record { 0 = b }) m (record { 0 = v }) ≡ condition_origin_of s i
+            → Ok (show.Copy (record { 0 = b }) m (record { 0 = v })) ≡ condition_origin_of s i
         number_copy m a v n =
             told_copy s i on b below o.from (o.below h) kept m (a ∙ rw (base_is, users_is)) k v events_is (n ∙ rw (base_is, users_is))
 

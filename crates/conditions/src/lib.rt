@@ -2,11 +2,10 @@
 #![tactic(auto)]
 
 ghost use Rattle.std.specs.Prelude.{◌≡◌, ◌≤◌};
-ghost use Rattle.model.specs.Unfolding.{ordinary};
 ghost use Rattle.model.specs.Numbering.{width};
 ghost use Rattle.table.specs.Decoded.{net_of};
 ghost use Rattle.layout.specs.Laid.{Sums};
-ghost use Rattle.conditions.specs.Origins.{told_if, condition_origin_of};
+ghost use Rattle.conditions.specs.Origins.{condition_origin_of};
 ghost use Rattle.conditions.specs.Owners.{Owns};
 
 use refusal::{Marker, Refusal, TableCondition, TableEvent, UnfoldedCondition};
@@ -16,7 +15,6 @@ use refusal::{Marker, Refusal, TableCondition, TableEvent, UnfoldedCondition};
 pub enum ConditionOrigin {
     Ordinary(TableCondition),
     Copy(TableCondition, Marker, TableEvent),
-    Refused(Refusal),
 }
 
 // The condition that a number falls to, by the sums before each; the number of conditions where it is past the last.
@@ -35,39 +33,26 @@ pub fn owner<'a>(table: &'a [u8], bases: &'a [u32], count: usize, i: u32) -> usi
     b
 }
 
-// A refused asking as an answer on what stands behind a number.
-fn no_origin(r: Result<usize, Refusal>) -> ConditionOrigin
-    ensures { result ≡ told_if r (ordinary 0) }
-{
-    match r {
-        Ok(_) => ConditionOrigin::Ordinary(TableCondition(0)),
-        Err(refusal) => ConditionOrigin::Refused(refusal),
-    }
-}
-
 // What stands behind an unfolded condition's number.
-pub fn condition_origin(table: &[u8], i: UnfoldedCondition) -> ConditionOrigin
+pub fn condition_origin(table: &[u8], i: UnfoldedCondition) -> Result<ConditionOrigin, Refusal>
     ensures { result ≡ condition_origin_of table.now i.0 }
 {
     let mut markers = [0u32; 256];
     let mut users = [0u32; 256];
     let mut bases = [0u32; 257];
-    let r = layout::lay_out(table, &mut markers, &mut users, &mut bases);
-    let Ok(events) = r else {
-        return no_origin(r);
-    };
+    let events = layout::lay_out(table, &mut markers, &mut users, &mut bases)?;
     let wanted = i.0 as u32;
     let count = records::conditions(table) as usize;
     let b = owner(table, &bases, count, wanted);
     if count <= b {
-        return no_origin(refusal::refused(10, 0));
+        return refusal::refused(10, 0);
     }
     if colours::is_persistent(table, b) {
         let rest = wanted - tally::number(&bases, b);
         let width = tally::number(&users, b);
         let m = unfolding::marker_at(table, events, b, (rest / width) as usize);
         let u = tally::nth(table, events, false, b, (rest % width) as usize);
-        return ConditionOrigin::Copy(TableCondition(b as u16), m, TableEvent(u as u16));
+        return Ok(ConditionOrigin::Copy(TableCondition(b as u16), m, TableEvent(u as u16)));
     }
-    ConditionOrigin::Ordinary(TableCondition(b as u16))
+    Ok(ConditionOrigin::Ordinary(TableCondition(b as u16)))
 }

@@ -22,7 +22,7 @@ use Rattle.table.specs.Decoded.{net_of}
 use Rattle.tally.specs.Having.{list_part}
 use Rattle.layout.specs.Unfolds.{unfolding_of}
 use Rattle.events.specs.declared.Colour.{Colour}
-use Rattle.event_numbers.specs.declared.Weighed.TheVariants.{Is, NoSuch}
+use Rattle.std.specs.Prelude.{None, Some}
 use Rattle.events.specs.Colours.{marker_at, colour_of}
 use Rattle.unfolding.specs.Numbers.{Within, all_mark}
 use Rattle.events.proofs.Calls.{inside, size_is}
@@ -40,7 +40,7 @@ unfolding reads
 few_choices s ms events w e h = omega (arith, length-map (keep (net_of s).persistent ((net_of s).preconditions e)) (markers (net_of s)), w.marked.limits.few_persistent e h)
 
 pub number_fits : (s ms : List ℕ) (events : ℕ) → Within s ms events → (e : ℕ) → e < (net_of s).events → (mss : List (List Marker)) → mss ≡ choices_at (net_of s) e
-    → (c : List Marker) (k before : ℕ) → weighed mss c ≡ Is k → before ≡ sum (size (net_of s)) e → before + k ≤ 65535
+    → (c : List Marker) (k before : ℕ) → weighed mss c ≡ Some k → before ≡ sum (size (net_of s)) e → before + k ≤ 65535
 unfolding size
 number_fits s ms events x e h mss m c k before t b =
     let o = weighed_told mss c k t in
@@ -78,10 +78,10 @@ module _ (s : List ℕ) (e : ℕ) (c : Colour) (u : (own : Judged) → unfolding
       (λ t. omega (arith, all_length (choices_at (net_of s) e) (colour_of c) t, length-map (count 0 (c.count - 0)) (marker_at c), length_count 0 (c.count - 0)))))
 
   module _ (mss : List (List Marker)) (m : mss ≡ choices_at (net_of s) e) where
-    pub number_no_colour : weighed mss (colour_of c) ≡ NoSuch → refused_at 10 0 ≡ number_of s e c
+    pub number_no_colour : weighed mss (colour_of c) ≡ None → refused_at 10 0 ≡ number_of s e c
     number_no_colour t = refuses (no_colour_lem (net_of s) e (colour_of c) (rw m at (weighed_untold mss (colour_of c) t)))
 
-    pub number_found : e < (net_of s).events → (k before : ℕ) → weighed mss (colour_of c) ≡ Is k → before ≡ sum (size (net_of s)) e → Ok (before + k) ≡ number_of s e c
+    pub number_found : e < (net_of s).events → (k before : ℕ) → weighed mss (colour_of c) ≡ Some k → before ≡ sum (size (net_of s)) e → Ok (before + k) ≡ number_of s e c
     unfolding number_of
     number_found h k before t b =
         let x = weighed_told mss (colour_of c) k t in

@@ -25,36 +25,36 @@ use Rattle.events.specs.declared.Colour.{Colour}
 use Rattle.events.specs.Colours.{marker_at, colour_from, colour_of}
 use Rattle.unfolding.specs.Numbers.{choices_of, all_mark}
 use Rattle.unfolding.proofs.Places.{some_way}
-use Rattle.event_numbers.specs.declared.Weighed.{Weighed}
-use Rattle.event_numbers.specs.declared.Weighed.TheVariants.{Is, NoSuch}
+use Rattle.std.specs.Prelude.{Option}
+use Rattle.std.specs.Prelude.{None, Some}
 use Rattle.event_numbers.specs.Weights.{weighed, Weighing}
 
 -- ---- a list of markers weighed
 
-told : (t : Bool) (p k : ℕ) → cond t (Is p) NoSuch ≡ Is k → (t ≡ true) × (k ≡ p)
+told : (t : Bool) (p k : ℕ) → cond t (Some p) None ≡ Some k → (t ≡ true) × (k ≡ p)
 told true p k e = (refl, cc)
 told false p k e = absurd (let z : ◌≡◌ {A = ℕ} 0 1 = cc in omega arith)
 
-untold : (t : Bool) (p : ℕ) → cond t (Is p) NoSuch ≡ NoSuch → t ≡ false
+untold : (t : Bool) (p : ℕ) → cond t (Some p) None ≡ None → t ≡ false
 untold true p e = absurd (let z : ◌≡◌ {A = ℕ} 0 1 = cc in omega arith)
 untold false p e = refl
 
-pub weighed_told : (mss : List (List Marker)) (c : List Marker) (k : ℕ) → weighed mss c ≡ Is k → (all_mark mss c ≡ true) × (k ≡ radix mss c)
+pub weighed_told : (mss : List (List Marker)) (c : List Marker) (k : ℕ) → weighed mss c ≡ Some k → (all_mark mss c ≡ true) × (k ≡ radix mss c)
 weighed_told mss c k e = told (all_mark mss c) (radix mss c) k e
 
-pub weighed_untold : (mss : List (List Marker)) (c : List Marker) → weighed mss c ≡ NoSuch → all_mark mss c ≡ false
+pub weighed_untold : (mss : List (List Marker)) (c : List Marker) → weighed mss c ≡ None → all_mark mss c ≡ false
 weighed_untold mss c e = untold (all_mark mss c) (radix mss c) e
 
 -- ---- what is left of a list of markers, with the place so far
 
-abbrev pub carried : ℕ → List (List Marker) → List Marker → Weighed
-carried k mss c = cond (all_mark mss c) (Is (k * ways mss + radix mss c)) NoSuch
+abbrev pub carried : ℕ → List (List Marker) → List Marker → Option ℕ
+carried k mss c = cond (all_mark mss c) (Some (k * ways mss + radix mss c)) None
 
 carried_first : (mss : List (List Marker)) (c : List Marker) → carried 0 mss c ≡ weighed mss c
 carried_first mss c = let z : 0 * ways mss + radix mss c ≡ radix mss c = omega arith in rw z
 
 module _ (k : ℕ) (ms : List Marker) (mss : List (List Marker)) (m : Marker) (c : List Marker) where
-  carried_over : length ms ≤ index (same_marker m) ms → carried k (ms ∷ mss) (m ∷ c) ≡ NoSuch
+  carried_over : length ms ≤ index (same_marker m) ms → carried k (ms ∷ mss) (m ∷ c) ≡ None
   carried_over h = rw (le-ltb (index (same_marker m) ms) (length ms) h)
 
   carried_more : index (same_marker m) ms < length ms → carried k (ms ∷ mss) (m ∷ c) ≡ carried (k * length ms + index (same_marker m) ms) mss c
@@ -106,10 +106,10 @@ module _ (s pre : List ℕ) (c : Colour) (number at i : ℕ) (p : Carrying s pre
     ended : carried number [] (colour_from c at) ≡ weighed (choices_of s (words pre)) (colour_of c)
     ended = rw (words_end pre i h) at p.result
 
-    pub none_left : at ≡ c.count → Is number ≡ weighed (choices_of s (words pre)) (colour_of c)
-    none_left e = let z : number ≡ number * 1 + 0 = omega arith in ap Is z ∙ (rw (colour_none c at e) at ended)
+    pub none_left : at ≡ c.count → Some number ≡ weighed (choices_of s (words pre)) (colour_of c)
+    none_left e = let z : number ≡ number * 1 + 0 = omega arith in ap Some z ∙ (rw (colour_none c at e) at ended)
 
-    pub some_left : at < c.count → NoSuch ≡ weighed (choices_of s (words pre)) (colour_of c)
+    pub some_left : at < c.count → None ≡ weighed (choices_of s (words pre)) (colour_of c)
     some_left l = rw (colour_more c at l) at ended
 
   module _ (ms : List ℕ) (k : Marked s ms) (h : 1 < length pre - i) (b : ℕ) (e : b ≡ word_at pre i) where
@@ -139,14 +139,14 @@ module _ (s pre : List ℕ) (c : Colour) (number at i : ℕ) (p : Carrying s pre
       mark_is : get_or ms b 0 ≡ length (markers (net_of s) b)
       mark_is = marks_at s ms k b (p.inside b (rw split (or_left (eqb b b) (mem b later) (eqb_refl b))))
 
-      pub few_markers : at ≡ c.count → NoSuch ≡ weighed (choices_of s (words pre)) (colour_of c)
+      pub few_markers : at ≡ c.count → None ≡ weighed (choices_of s (words pre)) (colour_of c)
       few_markers z = rw (more, colour_none c at z) at p.result
 
       module _ (l : at < c.count) (d : ℕ) (z : d ≡ index (same_marker (marker_at c at)) (markers (net_of s) b)) (r : ℕ) (y : r ≡ get_or ms b 0) where
         here : carried number (markers (net_of s) b ∷ choices_of s later) (marker_at c at ∷ colour_from c (at + 1)) ≡ weighed (choices_of s (words pre)) (colour_of c)
         here = rw (more, colour_more c at l) at p.result
 
-        pub not_marking : r ≤ d → NoSuch ≡ weighed (choices_of s (words pre)) (colour_of c)
+        pub not_marking : r ≤ d → None ≡ weighed (choices_of s (words pre)) (colour_of c)
         not_marking g = sym (carried_over number (markers (net_of s) b) (choices_of s later) (marker_at c at) (colour_from c (at + 1)) (omega (arith, mark_is))) ∙ here
 
         module _ (g : d < r) where

@@ -5,12 +5,12 @@ use Rattle.model.specs.Runs.{Marker}
 use Rattle.model.specs.Numbering.{ways, radix}
 use Rattle.model.specs.Across.{most_unfolded}
 use Rattle.unfolding.specs.Numbers.{Within, choices_of, all_mark}
-use Rattle.event_numbers.specs.declared.Weighed.{Weighed}
-use Rattle.event_numbers.specs.declared.Weighed.TheVariants.{Is, NoSuch}
+use Rattle.std.specs.Prelude.{Option}
+use Rattle.std.specs.Prelude.{None, Some}
 
 -- What a list of markers comes to: the place among the colours, or that it is no colour (01, Unfolding).
-abbrev pub weighed : List (List Marker) → List Marker → Weighed
-weighed mss c = cond (all_mark mss c) (Is (radix mss c)) NoSuch
+abbrev pub weighed : List (List Marker) → List Marker → Option ℕ
+weighed mss c = cond (all_mark mss c) (Some (radix mss c)) None
 
 -- What must hold to put markers together into a number.
 pub record Weighing (s ms : List ℕ) (events : ℕ) (l : List ℕ) : Type 0 where

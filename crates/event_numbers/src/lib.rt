@@ -11,14 +11,7 @@ ghost use Rattle.event_numbers.specs.Answers.{number_of};
 use events::Colour;
 use refusal::{Refusal, TableEvent};
 
-// What the markers of a colour come to: the place among the colours of an event, or that they are none of these.
-#[derive(Clone, Copy)]
-enum Weighed {
-    Is(usize),
-    NoSuch,
-}
-
-// What the markers of c come to, one for each persistent precondition, the lowest of which counts slowest.
+// The place of c among the colours of an event, if it is one: a marker for each persistent precondition, the lowest of which counts slowest.
 #[tactic(auto, using(crate::proofs::Weights::some_left, crate::proofs::Weights::none_left))]
 fn weigh<'a>(
     c: Colour,
@@ -26,7 +19,7 @@ fn weigh<'a>(
     events: usize,
     markers: &'a [u32],
     pre: &'a [u8],
-) -> Weighed
+) -> Option<usize>
     requires weighing { Weighing table.now markers.now events (words pre.now) }
     requires count_bound { c.count ≤ 16 }
     ensures { result ≡ weighed (choices_of table.now (words pre.now)) (colour_of c) }
@@ -38,13 +31,13 @@ fn weigh<'a>(
         let b = words::word_within(pre, i) as usize;
         if colours::is_persistent(table, b) {
             if at == c.count {
-                return Weighed::NoSuch;
+                return None;
             }
             let m = c.picks[at];
             let place = unfolding::marker_place(table, events, b, m);
             let radix = tally::number(markers, b) as usize;
             if radix <= place {
-                return Weighed::NoSuch;
+                return None;
             }
             number = number * radix + place;
             at = at + 1;
@@ -52,9 +45,9 @@ fn weigh<'a>(
         i = i + 2;
     }
     if at < c.count {
-        return Weighed::NoSuch;
+        return None;
     }
-    Weighed::Is(number)
+    Some(number)
 }
 
 // The number for an event and markers.
@@ -73,8 +66,7 @@ pub fn event_number(table: &[u8], event: TableEvent, colour: Colour) -> Result<u
         return refusal::refused(10, 0);
     }
     let pre = tally::list_at(table, table::offset(table, e), false);
-    let w = weigh(colour, table, events, &markers, pre);
-    let Weighed::Is(place) = w else {
+    let Some(place) = weigh(colour, table, events, &markers, pre) else {
         return refusal::refused(10, 0);
     };
     Ok(unfolding::colours_before(table, events, &markers, e as usize) + place)

@@ -27,16 +27,16 @@ pub returns-then-colour-gt16 : goal.returns-then-colour-gt16
 returns-then-colour-gt16 c =
     c.refused-then-colour-gt16.ensures ∙ number_many c.args.table.now c.args.event.0 c.args.colour (λ own. (unfolds_on c.args.table.now own (net_of c.args.table.now).events c.lay_out.ensures.answer c.in_ok-events.was).0) c.if-colour-gt16.true (few_choices c.args.table.now c.lay_out.new.markers c.in_ok-events.events (within_laid c.args.table.now c.lay_out.new.markers c.lay_out.new.users c.lay_out.new.bases c.in_ok-events.events (c.lay_out.ensures.laid c.in_ok-events.events c.in_ok-events.was) (unfolds_on c.args.table.now (Ok 0) (net_of c.args.table.now).events c.lay_out.ensures.answer c.in_ok-events.was).1) c.args.event.0 (omega (arith, (unfolds_on c.args.table.now (Ok 0) (net_of c.args.table.now).events c.lay_out.ensures.answer c.in_ok-events.was).1, c.if-events-e.false)))
 
-pub weigh-w-requires : goal.weigh-w-requires
-weigh-w-requires c =
+pub weigh-requires : goal.weigh-requires
+weigh-requires c =
     record {
       weighing = weighing_first c.args.table.now c.lay_out.new.markers c.in_ok-events.events (within_laid c.args.table.now c.lay_out.new.markers c.lay_out.new.users c.lay_out.new.bases c.in_ok-events.events (c.lay_out.ensures.laid c.in_ok-events.events c.in_ok-events.was) (unfolds_on c.args.table.now (Ok 0) (net_of c.args.table.now).events c.lay_out.ensures.answer c.in_ok-events.was).1) c.args.event.0 c.offset.result (omega (arith, (unfolds_on c.args.table.now (Ok 0) (net_of c.args.table.now).events c.lay_out.ensures.answer c.in_ok-events.was).1, c.if-events-e.false)) c.offset.ensures c.list_at-pre.result.now c.list_at-pre.ensures;
       count_bound = c.if-colour-gt16.false;
     }
 
-pub returns-in_default-w : goal.returns-in_default-w
-returns-in_default-w c =
-    c.refused-in_default-w.ensures ∙ number_no_colour c.args.table.now c.args.event.0 c.args.colour (λ own. (unfolds_on c.args.table.now own (net_of c.args.table.now).events c.lay_out.ensures.answer c.in_ok-events.was).0) _ (choices_are c.args.table.now c.lay_out.new.markers c.in_ok-events.events (within_laid c.args.table.now c.lay_out.new.markers c.lay_out.new.users c.lay_out.new.bases c.in_ok-events.events (c.lay_out.ensures.laid c.in_ok-events.events c.in_ok-events.was) (unfolds_on c.args.table.now (Ok 0) (net_of c.args.table.now).events c.lay_out.ensures.answer c.in_ok-events.was).1) c.args.event.0 c.offset.result (omega (arith, (unfolds_on c.args.table.now (Ok 0) (net_of c.args.table.now).events c.lay_out.ensures.answer c.in_ok-events.was).1, c.if-events-e.false)) c.offset.ensures c.list_at-pre.result.now c.list_at-pre.ensures) (sym c.weigh-w.ensures ∙ c.in_default-w.is)
+pub returns-in_default : goal.returns-in_default
+returns-in_default c =
+    c.refused-in_default.ensures ∙ number_no_colour c.args.table.now c.args.event.0 c.args.colour (λ own. (unfolds_on c.args.table.now own (net_of c.args.table.now).events c.lay_out.ensures.answer c.in_ok-events.was).0) _ (choices_are c.args.table.now c.lay_out.new.markers c.in_ok-events.events (within_laid c.args.table.now c.lay_out.new.markers c.lay_out.new.users c.lay_out.new.bases c.in_ok-events.events (c.lay_out.ensures.laid c.in_ok-events.events c.in_ok-events.was) (unfolds_on c.args.table.now (Ok 0) (net_of c.args.table.now).events c.lay_out.ensures.answer c.in_ok-events.was).1) c.args.event.0 c.offset.result (omega (arith, (unfolds_on c.args.table.now (Ok 0) (net_of c.args.table.now).events c.lay_out.ensures.answer c.in_ok-events.was).1, c.if-events-e.false)) c.offset.ensures c.list_at-pre.result.now c.list_at-pre.ensures) (sym c.weigh.ensures ∙ c.in_default.is)
 
 pub colours_before-requires : goal.colours_before-requires
 colours_before-requires c =
@@ -47,8 +47,8 @@ colours_before-requires c =
 
 pub overflow_add-result : goal.overflow_add-result
 overflow_add-result c =
-    omega (arith, number_fits c.args.table.now c.lay_out.new.markers c.in_ok-events.events (within_laid c.args.table.now c.lay_out.new.markers c.lay_out.new.users c.lay_out.new.bases c.in_ok-events.events (c.lay_out.ensures.laid c.in_ok-events.events c.in_ok-events.was) (unfolds_on c.args.table.now (Ok 0) (net_of c.args.table.now).events c.lay_out.ensures.answer c.in_ok-events.was).1) c.args.event.0 (omega (arith, (unfolds_on c.args.table.now (Ok 0) (net_of c.args.table.now).events c.lay_out.ensures.answer c.in_ok-events.was).1, c.if-events-e.false)) _ (choices_are c.args.table.now c.lay_out.new.markers c.in_ok-events.events (within_laid c.args.table.now c.lay_out.new.markers c.lay_out.new.users c.lay_out.new.bases c.in_ok-events.events (c.lay_out.ensures.laid c.in_ok-events.events c.in_ok-events.was) (unfolds_on c.args.table.now (Ok 0) (net_of c.args.table.now).events c.lay_out.ensures.answer c.in_ok-events.was).1) c.args.event.0 c.offset.result (omega (arith, (unfolds_on c.args.table.now (Ok 0) (net_of c.args.table.now).events c.lay_out.ensures.answer c.in_ok-events.was).1, c.if-events-e.false)) c.offset.ensures c.list_at-pre.result.now c.list_at-pre.ensures) (colour_of c.args.colour) c.in-Is.place c.colours_before.result (sym c.weigh-w.ensures ∙ c.in-Is.is) c.colours_before.ensures)
+    omega (arith, number_fits c.args.table.now c.lay_out.new.markers c.in_ok-events.events (within_laid c.args.table.now c.lay_out.new.markers c.lay_out.new.users c.lay_out.new.bases c.in_ok-events.events (c.lay_out.ensures.laid c.in_ok-events.events c.in_ok-events.was) (unfolds_on c.args.table.now (Ok 0) (net_of c.args.table.now).events c.lay_out.ensures.answer c.in_ok-events.was).1) c.args.event.0 (omega (arith, (unfolds_on c.args.table.now (Ok 0) (net_of c.args.table.now).events c.lay_out.ensures.answer c.in_ok-events.was).1, c.if-events-e.false)) _ (choices_are c.args.table.now c.lay_out.new.markers c.in_ok-events.events (within_laid c.args.table.now c.lay_out.new.markers c.lay_out.new.users c.lay_out.new.bases c.in_ok-events.events (c.lay_out.ensures.laid c.in_ok-events.events c.in_ok-events.was) (unfolds_on c.args.table.now (Ok 0) (net_of c.args.table.now).events c.lay_out.ensures.answer c.in_ok-events.was).1) c.args.event.0 c.offset.result (omega (arith, (unfolds_on c.args.table.now (Ok 0) (net_of c.args.table.now).events c.lay_out.ensures.answer c.in_ok-events.was).1, c.if-events-e.false)) c.offset.ensures c.list_at-pre.result.now c.list_at-pre.ensures) (colour_of c.args.colour) c.in-Some.place c.colours_before.result (sym c.weigh.ensures ∙ c.in-Some.is) c.colours_before.ensures)
 
 pub returns : goal.returns
 returns c =
-    number_found c.args.table.now c.args.event.0 c.args.colour (λ own. (unfolds_on c.args.table.now own (net_of c.args.table.now).events c.lay_out.ensures.answer c.in_ok-events.was).0) _ (choices_are c.args.table.now c.lay_out.new.markers c.in_ok-events.events (within_laid c.args.table.now c.lay_out.new.markers c.lay_out.new.users c.lay_out.new.bases c.in_ok-events.events (c.lay_out.ensures.laid c.in_ok-events.events c.in_ok-events.was) (unfolds_on c.args.table.now (Ok 0) (net_of c.args.table.now).events c.lay_out.ensures.answer c.in_ok-events.was).1) c.args.event.0 c.offset.result (omega (arith, (unfolds_on c.args.table.now (Ok 0) (net_of c.args.table.now).events c.lay_out.ensures.answer c.in_ok-events.was).1, c.if-events-e.false)) c.offset.ensures c.list_at-pre.result.now c.list_at-pre.ensures) (omega (arith, (unfolds_on c.args.table.now (Ok 0) (net_of c.args.table.now).events c.lay_out.ensures.answer c.in_ok-events.was).1, c.if-events-e.false)) c.in-Is.place c.colours_before.result (sym c.weigh-w.ensures ∙ c.in-Is.is) c.colours_before.ensures
+    number_found c.args.table.now c.args.event.0 c.args.colour (λ own. (unfolds_on c.args.table.now own (net_of c.args.table.now).events c.lay_out.ensures.answer c.in_ok-events.was).0) _ (choices_are c.args.table.now c.lay_out.new.markers c.in_ok-events.events (within_laid c.args.table.now c.lay_out.new.markers c.lay_out.new.users c.lay_out.new.bases c.in_ok-events.events (c.lay_out.ensures.laid c.in_ok-events.events c.in_ok-events.was) (unfolds_on c.args.table.now (Ok 0) (net_of c.args.table.now).events c.lay_out.ensures.answer c.in_ok-events.was).1) c.args.event.0 c.offset.result (omega (arith, (unfolds_on c.args.table.now (Ok 0) (net_of c.args.table.now).events c.lay_out.ensures.answer c.in_ok-events.was).1, c.if-events-e.false)) c.offset.ensures c.list_at-pre.result.now c.list_at-pre.ensures) (omega (arith, (unfolds_on c.args.table.now (Ok 0) (net_of c.args.table.now).events c.lay_out.ensures.answer c.in_ok-events.was).1, c.if-events-e.false)) c.in-Some.place c.colours_before.result (sym c.weigh.ensures ∙ c.in-Some.is) c.colours_before.ensures
