@@ -16,8 +16,8 @@ ghost use Rattle.walking.specs.Steps.{stops, Summed, Below};
 ghost use Rattle.firing.specs.Calls.{unfolded_fire_of, unfolded_fired_of};
 ghost use Rattle.firing.specs.Steps.{Lending};
 
-use refusal::{Refusal, UnfoldedEvent};
-use unfolded_step::Step;
+use refusal::{Refusal, UnfoldedCondition, UnfoldedEvent};
+use stopping::Cause;
 use unfolding::Coloured;
 
 // A step over the ranges of what is taken and of what is put: tested, then what is taken cleared and what is put set.
@@ -31,7 +31,7 @@ fn step_over<'a>(
     widths: &'a [u32],
     put: usize,
     state: &mut [u8],
-) -> Step
+) -> Result<(), Cause<UnfoldedCondition>>
     requires summed { Summed table.now bases.now }
     requires state_len { length state.old ≡ (basic (net_of table.now)).conditions }
     requires below { Below starts.now sizes.now taken (length state.old) }
@@ -39,7 +39,7 @@ fn step_over<'a>(
     ensures answer { result ≡ step_of (stops (marking state.old) (ranged starts.now sizes.now taken) (ranged firsts.now widths.now put) (basic (net_of table.now)).old) }
     ensures after { state.new ≡ stepped (stops (marking state.old) (ranged starts.now sizes.now taken) (ranged firsts.now widths.now put) (basic (net_of table.now)).old) (set_all [] 1 (ranged firsts.now widths.now put) (set_all [] 0 (ranged starts.now sizes.now taken) state.old)) state.old }
 {
-    let answer = walking::test(
+    walking::test(
         table,
         bases,
         &state[..],
@@ -49,13 +49,10 @@ fn step_over<'a>(
         firsts,
         widths,
         put,
-    );
-    let Step::Goes = answer else {
-        return answer;
-    };
+    )?;
     walking::set_ranges(starts, sizes, taken, 0, state);
     walking::set_ranges(firsts, widths, put, 1, state);
-    answer
+    Ok(())
 }
 
 // One step of the unfolded net: the lists of the unfolded event that a number names, and then the step over them.
@@ -66,7 +63,7 @@ fn step_at<'a>(
     bases: &'a [u32],
     own: Coloured,
     state: &mut [u8],
-) -> Step
+) -> Result<(), Cause<UnfoldedCondition>>
     requires owned { Owned table.now markers.now users.now bases.now own.event own.at own.weight own.rest }
     requires state_len { (length state.old ≡ (basic (net_of table.now)).conditions) × Lent state.old }
     ensures answer { result ≡ step_of (stopping (basic (net_of table.now)) (marking state.old) (sum (size (net_of table.now)) own.event + own.rest)) }
@@ -112,7 +109,7 @@ fn lend<'a>(
     requires { (length markers.old ≡ 256) × (length users.old ≡ 256) × (length bases.old ≡ 257) }
     ensures { Lending table.now state.now result markers.new users.new bases.new }
 {
-    layout::lay_out(table, markers, users, bases)?;
+    let events = layout::lay_out(table, markers, users, bases)?;
     let count = tally::number(&bases[..], records::conditions(table) as usize) as usize;
     if state.len() != count {
         return refusal::refused(18, count);
@@ -121,7 +118,7 @@ fn lend<'a>(
     if above < state.len() {
         return refusal::refused(18, above);
     }
-    r
+    Ok(events)
 }
 
 // An unfolded event fired at a lent unfolded marking, over which the new one is written.
@@ -138,6 +135,6 @@ pub fn unfolded_fire(table: &[u8], marking: &mut [u8], j: UnfoldedEvent) -> Resu
         return refusal::refused(10, 0);
     };
     let count = marking.len();
-    let step = step_at(table, &markers, &users, &bases, own, marking);
-    unfolded_step::answered(step, count)
+    step_at(table, &markers, &users, &bases, own, marking)?;
+    Ok(count)
 }

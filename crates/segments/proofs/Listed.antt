@@ -22,8 +22,7 @@ use Rattle.tally.proofs.Events.{judged, list_read, list_inside, list_ascends}
 use Rattle.unfolding.specs.Numbers.{choices_of}
 use Rattle.unfolding.proofs.Numbered.{origin_is}
 use Rattle.unfolding.proofs.Owners.{within_laid, before_few}
-use Rattle.segments.specs.Ranges.{ranged, chosen_from, Choosing, event_at, touching, added, Known, owner_of, Owned, Ranges}
-use Rattle.unfolding.specs.declared.Coloured.{Coloured}
+use Rattle.segments.specs.Ranges.{ranged, chosen_from, Choosing, event_at, touching, added, Known, Owned, Ranges}
 use Rattle.segments.proofs.Places.{places_spread}
 use Rattle.segments.proofs.Chosen.{chosen_at}
 
@@ -111,17 +110,3 @@ module _ {s ms us bs : List ℕ} {e at weight rest : ℕ} (o : Owned s ms us bs 
         low = λ b t. added_low (net_of s) post e rest o.event (omega (arith, o.whole, o.below)) o.laid.few_conditions b (subst (λ (l : List ℕ). T (mem b l)) all t);
         few = omega (arith, o.laid.counted.marked.limits.few_conditions);
       }
-
--- ---- an owner made of its parts
-
-module _ (s : List ℕ) where
-  pub owned_by : (ms us bs : List ℕ) (e at weight rest : ℕ) (own : Coloured) → own ≡ owner_of e at weight rest → Owned s ms us bs e at weight rest
-      → Owned s ms us bs own.event own.at own.weight own.rest
-  owned_by ms us bs e at weight rest own z o = subst (λ (x : Coloured). Owned s ms us bs x.event x.at x.weight x.rest) (sym z) o
-
-  pub number_by : (e at weight rest : ℕ) (own : Coloured) → own ≡ owner_of e at weight rest → sum (size (net_of s)) own.event + own.rest ≡ sum (size (net_of s)) e + rest
-  number_by e at weight rest own z = ap (λ (x : Coloured). sum (size (net_of s)) x.event + x.rest) z
-
-  pub ranges_by : (post : Bool) (e at weight rest : ℕ) (own : Coloured) → own ≡ owner_of e at weight rest → (starts sizes : List ℕ) (k : ℕ)
-      → Ranges (net_of s) post (sum (size (net_of s)) own.event + own.rest) starts sizes k → Ranges (net_of s) post (sum (size (net_of s)) e + rest) starts sizes k
-  ranges_by post e at weight rest own z starts sizes k r = subst (λ (j : ℕ). Ranges (net_of s) post j starts sizes k) (number_by e at weight rest own z) r

@@ -15,7 +15,6 @@ use Rattle.colours.specs.Colours.{flagged}
 use Rattle.layout.specs.Laid.{Marked, Laid, Sums}
 use Rattle.unfolding.specs.Numbers.{choices_of}
 use Rattle.segments.specs.declared.Segment.{Segment}
-use Rattle.unfolding.specs.declared.Coloured.{Coloured}
 
 -- ---- ranges
 
@@ -101,10 +100,6 @@ pub record Known (s users bases marks uses chosen pre members : List ℕ) (post 
   pub places : Chosen (net_of s) e rest chosen
   pub reading : words pre ≡ (net_of s).preconditions e
   pub listing : Members (list_of (net_of s) post e) members
-
--- What the number of an unfolded event names, from its parts (01, Unfolding).
-abbrev pub owner_of : ℕ → ℕ → ℕ → ℕ → Coloured
-owner_of event at weight rest = record { event = event; at = at; weight = weight; rest = rest }
 
 -- An event of a table that is laid out, with its record's offset, its number of colours and what is left of a number (01, Unfolding).
 pub record Owned (s ms us bases : List ℕ) (e at weight rest : ℕ) : Type 0 where

@@ -11,7 +11,8 @@ use Rattle.table.specs.Walk.{judge_of}
 use Rattle.table.specs.Decoded.{net_of}
 use Rattle.layout.specs.Laid.{Sums}
 use Rattle.segments.specs.Ranges.{ranged}
-use Rattle.walking.specs.Steps.{Failing}
+use Rattle.std.specs.Prelude.{Option as Found}
+use Rattle.refusal.specs.declared.UnfoldedCondition.{UnfoldedCondition}
 use Rattle.std.specs.Prelude.{None, Some}
 
 -- What an unfolded condition of a list must pass, by a marking, the preconditions of an event and the conditions under the old rule: it
@@ -19,6 +20,10 @@ use Rattle.std.specs.Prelude.{None, Some}
 abbrev pub passes_of : Bool → Marking → List ℕ → (ℕ → Bool) → ℕ → Bool
 passes_of false m pre old b = m b
 passes_of true m pre old b = not (m b) || mem b pre && not (old b)
+
+-- The first unfolded condition that fails, if one does.
+abbrev pub Failing : Type 0
+Failing = Found UnfoldedCondition
 
 -- The first unfolded condition that fails, as an answer.
 abbrev pub failing_of : Option ℕ → Failing

@@ -12,14 +12,7 @@ ghost use Rattle.stopping.specs.Unfolded.{step_of};
 ghost use Rattle.walking.specs.Steps.{passes_of, failing_of, stops, Summed, Kept, Below, BelowIn};
 
 use refusal::UnfoldedCondition;
-use unfolded_step::{Cause, Step};
-
-// The first unfolded condition of a list that fails its test.
-#[derive(Clone, Copy)]
-pub enum Failing {
-    Nothing,
-    At(UnfoldedCondition),
-}
+use stopping::Cause;
 
 // Whether an unfolded condition holds.
 fn holds(state: &[u8], k: u32) -> bool
@@ -106,7 +99,7 @@ fn first_in<'a>(
     ranges: usize,
     first: u32,
     size: u32,
-) -> Failing
+) -> Option<UnfoldedCondition>
     requires summed { Summed table.now bases.now }
     requires below { Below starts.now sizes.now ranges (basic (net_of table.now)).conditions }
     requires below_in { BelowIn first size (basic (net_of table.now)).conditions }
@@ -118,10 +111,10 @@ fn first_in<'a>(
         if passes(table, bases, contact, state, starts, sizes, ranges, k) {
             d = d + 1;
         } else {
-            return Failing::At(UnfoldedCondition(k as u16));
+            return Some(UnfoldedCondition(k as u16));
         }
     }
-    Failing::Nothing
+    None
 }
 
 // The first number of a list of ranges that fails, the taken ones being ranges too.
@@ -136,7 +129,7 @@ fn first_failing<'a>(
     firsts: &'a [u32],
     widths: &'a [u32],
     all: usize,
-) -> Failing
+) -> Option<UnfoldedCondition>
     requires summed { Summed table.now bases.now }
     requires below { Below starts.now sizes.now ranges (basic (net_of table.now)).conditions }
     requires below_2 { Below firsts.now widths.now all (basic (net_of table.now)).conditions }
@@ -144,15 +137,14 @@ fn first_failing<'a>(
 {
     let mut i: usize = 0;
     while i < all {
-        let found = first_in(
+        if let Some(b) = first_in(
             table, bases, contact, state, starts, sizes, ranges, firsts[i], widths[i],
-        );
-        let Failing::Nothing = found else {
-            return found;
-        };
+) {
+            return Some(b);
+        }
         i = i + 1;
     }
-    Failing::Nothing
+    None
 }
 
 // What stops an event with these lists, taken and put, if anything does.
@@ -166,7 +158,7 @@ pub fn test<'a>(
     firsts: &'a [u32],
     widths: &'a [u32],
     all: usize,
-) -> Step
+) -> Result<(), Cause<UnfoldedCondition>>
     requires summed { Summed table.now bases.now }
     requires below { Below starts.now sizes.now ranges (basic (net_of table.now)).conditions }
     requires below_2 { Below firsts.now widths.now all (basic (net_of table.now)).conditions }
@@ -175,16 +167,16 @@ pub fn test<'a>(
     let lacking = first_failing(
         table, bases, false, state, starts, sizes, ranges, starts, sizes, ranges,
     );
-    if let Failing::At(b) = lacking {
-        return Step::Stops(Cause::Lacks(b));
+    if let Some(b) = lacking {
+        return Err(Cause::Lacks(b));
     }
     let contact = first_failing(
         table, bases, true, state, starts, sizes, ranges, firsts, widths, all,
     );
-    if let Failing::At(b) = contact {
-        return Step::Stops(Cause::Meets(b));
+    if let Some(b) = contact {
+        return Err(Cause::Meets(b));
     }
-    Step::Goes
+    Ok(())
 }
 
 // Each condition of a range set to a byte.

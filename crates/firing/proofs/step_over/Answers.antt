@@ -1,7 +1,8 @@
 -- `firing::step_over` meets its contract.
 use Prim.Native.Nat.{ℕ}
 use native.Mathlib.Omega.{arith}
-use mathlib.Core.Path.{◌≡◌, ◌∙◌, ap, subst}
+use Rattle.std.proofs.Common.{rules}
+use mathlib.Core.Path.{◌≡◌, ◌∙◌, sym, ap, subst}
 use mathlib.Core.List.{List, []}
 use lib.ListN.{length}
 use Rattle.model.specs.Unfolding.{basic}
@@ -13,19 +14,20 @@ use Rattle.walking.specs.Steps.{Below}
 use Rattle.firing.proofs.Fired.{over_kept, over_written}
 use Rattle.firing.proofs.step_over.Goals as goal
 
-pub test-answer-requires : goal.test-answer-requires
-test-answer-requires c =
+pub test-requires : goal.test-requires
+test-requires c =
     record {
       summed = c.requires.summed;
       below = subst (λ (x : ℕ). Below c.args.starts.now c.args.sizes.now c.args.taken x) c.requires.state_len c.requires.below;
       below_2 = subst (λ (x : ℕ). Below c.args.firsts.now c.args.widths.now c.args.put x) c.requires.state_len c.requires.below_2;
     }
 
-pub returns-in_default : goal.returns-in_default
-returns-in_default c =
+pub returns-in_err-test : goal.returns-in_err-test
+returns-in_err-test c =
+    let same : c.from_residual.result ≡ c.test.result = search rules in
     record {
-      answer = c.test-answer.ensures;
-      after = over_kept c.args.state.now (ranged c.args.starts.now c.args.sizes.now c.args.taken) (ranged c.args.firsts.now c.args.widths.now c.args.put) (basic (net_of c.args.table.now)).old _ c.test-answer.ensures _ c.in_default.is;
+      answer = same ∙ c.test.ensures;
+      after = over_kept c.args.state.now (ranged c.args.starts.now c.args.sizes.now c.args.taken) (ranged c.args.firsts.now c.args.widths.now c.args.put) (basic (net_of c.args.table.now)).old _ c.test.ensures _ c.in_err-test.was;
     }
 
 pub set_ranges-requires : goal.set_ranges-requires
@@ -46,6 +48,6 @@ set_ranges-requires-2 c =
 pub returns : goal.returns
 returns c =
     record {
-      answer = c.test-answer.ensures;
-      after = c.set_ranges-2.ensures ∙ ap (λ (l : List ℕ). set_all [] 1 (ranged c.args.firsts.now c.args.widths.now c.args.put) l) c.set_ranges.ensures ∙ over_written c.args.state.now (ranged c.args.starts.now c.args.sizes.now c.args.taken) (ranged c.args.firsts.now c.args.widths.now c.args.put) (basic (net_of c.args.table.now)).old _ c.test-answer.ensures c.in-Goes.is;
+      answer = sym c.in_ok-test.was ∙ c.test.ensures;
+      after = c.set_ranges-2.ensures ∙ ap (λ (l : List ℕ). set_all [] 1 (ranged c.args.firsts.now c.args.widths.now c.args.put) l) c.set_ranges.ensures ∙ over_written c.args.state.now (ranged c.args.starts.now c.args.sizes.now c.args.taken) (ranged c.args.firsts.now c.args.widths.now c.args.put) (basic (net_of c.args.table.now)).old _ c.test.ensures c.in_ok-test.was;
     }

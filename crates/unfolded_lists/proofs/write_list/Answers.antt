@@ -1,6 +1,6 @@
 -- `unfolded_lists::write_list` meets its contract.
 use native.Mathlib.Omega.{arith}
-use mathlib.Core.Path.{◌≡◌, ◌∙◌, sym, subst}
+use mathlib.Core.Path.{◌≡◌, ◌∙◌, sym}
 use lib.Dec.{ltb}
 use lib.ListN.{length}
 use Rattle.model.specs.Unfolding.{basic}
@@ -11,14 +11,10 @@ use Rattle.table.specs.Decoded.{net_of}
 use Rattle.tally.specs.Having.{list_of}
 use Rattle.layout.specs.Unfolds.{unfolding_of}
 use Rattle.layout.proofs.Limits.{unfolds_passed, unfolds_on}
-use Rattle.unfolding.specs.Numbers.{Belongs}
-use Rattle.std.specs.Prelude.{Option as Perhaps}
-use Rattle.unfolding.specs.declared.Coloured.{Coloured}
 use Rattle.unfolding.proofs.Owners.{within_laid}
 use Rattle.unfolded_lists.specs.Calls.{unfolded_list_of}
 use Rattle.unfolded_lists.proofs.Answers.{kept, listing_past, listing_short, listing_fine, listed_fine}
 use Rattle.segments.proofs.Ranged.{ranged_length}
-use Rattle.segments.proofs.Listed.{owned_by, ranges_by}
 use borrow.Author.Rules.{rules}
 use Rattle.unfolded_lists.proofs.write_list.Goals as goal
 
@@ -34,14 +30,14 @@ returns-in_err-events c =
       after = kept c.args.table.now c.args.post c.args.j.0 c.args.out.now (sym told ∙ c.in_err-events.was);
     }
 
-pub owner-f-requires : goal.owner-f-requires
-owner-f-requires c =
+pub owner-requires : goal.owner-requires
+owner-requires c =
     within_laid c.args.table.now c.lay_out.new.markers c.lay_out.new.users c.lay_out.new.bases c.in_ok-events.events (c.lay_out.ensures.laid c.in_ok-events.events c.in_ok-events.was) (unfolds_on c.args.table.now (Ok 0) (net_of c.args.table.now).events c.lay_out.ensures.answer c.in_ok-events.was).1
 
-pub returns-in_default-f : goal.returns-in_default-f
-returns-in_default-f c =
+pub returns-in_default : goal.returns-in_default
+returns-in_default c =
     let u : (own : Judged) → unfolding_of c.args.table.now own ≡ own = λ own. (unfolds_on c.args.table.now own (net_of c.args.table.now).events c.lay_out.ensures.answer c.in_ok-events.was).0 in
-    let past = listing_past c.args.table.now c.args.post c.args.j.0 c.args.out.now u (subst (λ (x : Perhaps Coloured). Belongs c.args.table.now c.args.j.0 x) c.in_default-f.is c.owner-f.ensures) in
+    let past = listing_past c.args.table.now c.args.post c.args.j.0 c.args.out.now u (rw c.in_default.is at c.owner.ensures) in
     record {
       answer = c.refused.ensures ∙ past;
       after = kept c.args.table.now c.args.post c.args.j.0 c.args.out.now (sym past);
@@ -49,9 +45,9 @@ returns-in_default-f c =
 
 pub ranges-k-requires : goal.ranges-k-requires
 ranges-k-requires c =
-    let o = subst (λ (x : Perhaps Coloured). Belongs c.args.table.now c.args.j.0 x) c.in-At.is c.owner-f.ensures in
+    let o = c.in-Some.ensures in
     record {
-      owned = owned_by c.args.table.now _ _ _ _ _ _ _ c.own-own.result c.own-own.ensures (record { laid = c.lay_out.ensures.laid c.in_ok-events.events c.in_ok-events.was; event = o.event; offset = o.offset; whole = o.whole; below = o.below });
+      owned = record { laid = c.lay_out.ensures.laid c.in_ok-events.events c.in_ok-events.was; event = o.event; offset = o.offset; whole = o.whole; below = o.below };
       starts_len = (search rules, search rules);
     }
 
@@ -65,8 +61,8 @@ total-needed-requires c =
 pub returns-then-out-needed : goal.returns-then-out-needed
 returns-then-out-needed c =
     let u : (own : Judged) → unfolding_of c.args.table.now own ≡ own = λ own. (unfolds_on c.args.table.now own (net_of c.args.table.now).events c.lay_out.ensures.answer c.in_ok-events.was).0 in
-    let o = subst (λ (x : Perhaps Coloured). Belongs c.args.table.now c.args.j.0 x) c.in-At.is c.owner-f.ensures in
-    let short = listing_short c.args.table.now c.args.post c.args.j.0 c.args.out.now u o c.ranges-k.new.starts c.ranges-k.new.sizes c.ranges-k.result (ranges_by c.args.table.now c.args.post _ _ _ _ c.own-own.result c.own-own.ensures _ _ _ c.ranges-k.ensures) c.total-needed.result c.total-needed.ensures c.if-out-needed.true in
+    let o = c.in-Some.ensures in
+    let short = listing_short c.args.table.now c.args.post c.args.j.0 c.args.out.now u o c.ranges-k.new.starts c.ranges-k.new.sizes c.ranges-k.result c.ranges-k.ensures c.total-needed.result c.total-needed.ensures c.if-out-needed.true in
     record {
       answer = c.refused-then-out-needed.ensures ∙ short;
       after = kept c.args.table.now c.args.post c.args.j.0 c.args.out.now (sym short);
@@ -84,8 +80,8 @@ put_ranges-requires c =
 pub returns : goal.returns
 returns c =
     let u : (own : Judged) → unfolding_of c.args.table.now own ≡ own = λ own. (unfolds_on c.args.table.now own (net_of c.args.table.now).events c.lay_out.ensures.answer c.in_ok-events.was).0 in
-    let o = subst (λ (x : Perhaps Coloured). Belongs c.args.table.now c.args.j.0 x) c.in-At.is c.owner-f.ensures in
+    let o = c.in-Some.ensures in
     record {
-      answer = listing_fine c.args.table.now c.args.post c.args.j.0 c.args.out.now u o c.ranges-k.new.starts c.ranges-k.new.sizes c.ranges-k.result (ranges_by c.args.table.now c.args.post _ _ _ _ c.own-own.result c.own-own.ensures _ _ _ c.ranges-k.ensures) c.total-needed.result c.total-needed.ensures c.if-out-needed.false;
-      after = c.put_ranges.ensures ∙ listed_fine c.args.table.now c.args.post c.args.j.0 c.args.out.now u o c.ranges-k.new.starts c.ranges-k.new.sizes c.ranges-k.result (ranges_by c.args.table.now c.args.post _ _ _ _ c.own-own.result c.own-own.ensures _ _ _ c.ranges-k.ensures) c.total-needed.result c.total-needed.ensures c.if-out-needed.false;
+      answer = listing_fine c.args.table.now c.args.post c.args.j.0 c.args.out.now u o c.ranges-k.new.starts c.ranges-k.new.sizes c.ranges-k.result c.ranges-k.ensures c.total-needed.result c.total-needed.ensures c.if-out-needed.false;
+      after = c.put_ranges.ensures ∙ listed_fine c.args.table.now c.args.post c.args.j.0 c.args.out.now u o c.ranges-k.new.starts c.ranges-k.new.sizes c.ranges-k.result c.ranges-k.ensures c.total-needed.result c.total-needed.ensures c.if-out-needed.false;
     }

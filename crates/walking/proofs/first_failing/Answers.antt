@@ -27,21 +27,21 @@ pub bounds-widths-i : goal.bounds-widths-i
 bounds-widths-i c =
     omega (arith, c.requires.below_2.kept.in_sizes)
 
-pub first_in-found-requires : goal.first_in-found-requires
-first_in-found-requires c =
+pub first_in-requires : goal.first_in-requires
+first_in-requires c =
     record {
       summed = c.requires.summed;
       below = c.requires.below;
       below_in = λ d l. c.loop-i.invariant.1 (get_or c.args.firsts.now c.loop-i.i 0 + d) (first_there c.args.firsts.now c.args.widths.now c.loop-i.i c.args.all c.loop-i-test.true d l);
     }
 
-pub returns-in_default : goal.returns-in_default
-returns-in_default c =
-    one_found (passes_of c.args.contact (marking c.args.state.now) (ranged c.args.starts.now c.args.sizes.now c.args.ranges) (basic (net_of c.args.table.now)).old) c.args.firsts.now c.args.widths.now c.loop-i.i c.args.all c.loop-i-test.true c.first_in-found.result c.first_in-found.ensures c.in_default.is ∙ ap failing_of c.loop-i.invariant.2
+pub returns-in-Some : goal.returns-in-Some
+returns-in-Some c =
+    sym c.in-Some.is ∙ one_found (passes_of c.args.contact (marking c.args.state.now) (ranged c.args.starts.now c.args.sizes.now c.args.ranges) (basic (net_of c.args.table.now)).old) c.args.firsts.now c.args.widths.now c.loop-i.i c.args.all c.loop-i-test.true c.first_in.result c.first_in.ensures c.in-Some.is ∙ ap failing_of c.loop-i.invariant.2
 
 pub loop-i-preserved : goal.loop-i-preserved
 loop-i-preserved c =
-    (omega arith, λ b t. c.loop-i.invariant.1 b (others_there c.args.firsts.now c.args.widths.now c.loop-i.i c.args.all c.loop-i-test.true b t), sym (none_found (passes_of c.args.contact (marking c.args.state.now) (ranged c.args.starts.now c.args.sizes.now c.args.ranges) (basic (net_of c.args.table.now)).old) c.args.firsts.now c.args.widths.now c.loop-i.i c.args.all c.loop-i-test.true c.first_in-found.result c.first_in-found.ensures c.in-Nothing.is) ∙ c.loop-i.invariant.2)
+    (omega arith, λ b t. c.loop-i.invariant.1 b (others_there c.args.firsts.now c.args.widths.now c.loop-i.i c.args.all c.loop-i-test.true b t), sym (none_found (passes_of c.args.contact (marking c.args.state.now) (ranged c.args.starts.now c.args.sizes.now c.args.ranges) (basic (net_of c.args.table.now)).old) c.args.firsts.now c.args.widths.now c.loop-i.i c.args.all c.loop-i-test.true c.first_in.result c.first_in.ensures c.in_default.is) ∙ c.loop-i.invariant.2)
 
 pub returns : goal.returns
 returns c =

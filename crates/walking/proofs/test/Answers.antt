@@ -22,13 +22,13 @@ first_failing-contact-requires c =
       below_2 = c.requires.below_2;
     }
 
-pub returns-in-At : goal.returns-in-At
-returns-in-At c =
-    test_lacks (marking c.args.state.now) (ranged c.args.starts.now c.args.sizes.now c.args.ranges) (ranged c.args.firsts.now c.args.widths.now c.args.all) (basic (net_of c.args.table.now)).old c.first_failing-lacking.result c.first_failing-lacking.ensures _ c.in-At.is
+pub returns-in-Some : goal.returns-in-Some
+returns-in-Some c =
+    test_lacks (marking c.args.state.now) (ranged c.args.starts.now c.args.sizes.now c.args.ranges) (ranged c.args.firsts.now c.args.widths.now c.args.all) (basic (net_of c.args.table.now)).old c.first_failing-lacking.result c.first_failing-lacking.ensures _ c.in-Some.is
 
-pub returns-in-At-contact : goal.returns-in-At-contact
-returns-in-At-contact c =
-    test_meets (marking c.args.state.now) (ranged c.args.starts.now c.args.sizes.now c.args.ranges) (ranged c.args.firsts.now c.args.widths.now c.args.all) (basic (net_of c.args.table.now)).old c.first_failing-lacking.result c.first_failing-lacking.ensures c.in_default.is c.first_failing-contact.result c.first_failing-contact.ensures _ c.in-At-contact.is
+pub returns-in-Some-contact : goal.returns-in-Some-contact
+returns-in-Some-contact c =
+    test_meets (marking c.args.state.now) (ranged c.args.starts.now c.args.sizes.now c.args.ranges) (ranged c.args.firsts.now c.args.widths.now c.args.all) (basic (net_of c.args.table.now)).old c.first_failing-lacking.result c.first_failing-lacking.ensures c.in_default.is c.first_failing-contact.result c.first_failing-contact.ensures _ c.in-Some-contact.is
 
 pub returns : goal.returns
 returns c =
