@@ -144,12 +144,20 @@ pub fn next_owner<'a>(table: &'a [u8], events: usize, markers: &'a [u32], own: C
     ensures { numbers.Belongs table.now (suc (sum (size (net_of table.now)) own.event + own.rest)) result }
 {
     if own.rest + 1 < own.weight {
-        return Found::At(own.event, own.at, own.rest + 1, own.weight);
+        return Some(Coloured {
+            rest: own.rest + 1,
+            ..own
+        });
     }
     if own.event + 1 < events {
         let at = own.at + 4 + words::word(table, own.at) as usize;
         let weight = colours::colours(table, markers, tally::list_at(table, at, false));
-        return Found::At(own.event + 1, at, 0, weight);
+        return Some(Coloured {
+            event: own.event + 1,
+            at,
+            weight,
+            rest: 0,
+        });
     }
     None
 }

@@ -25,13 +25,12 @@ use Rattle.std.specs.Prelude.{Option as Perhaps}
 use Rattle.std.specs.Prelude.{None, Some}
 use Rattle.unfolding.proofs.Numbered.{events_basic}
 use Rattle.unfolding.specs.declared.Coloured.{Coloured}
-use Rattle.segments.specs.Ranges.{owner_of, Owned}
+use Rattle.segments.specs.Ranges.{Owned}
 use Rattle.segments.proofs.Listed.{all_conditions}
 use Rattle.doubled.specs.Doubling.{doubled}
 use Rattle.arcs.proofs.Counts.{arcs_few, arcs_some}
 use Rattle.arcs.specs.Arcs.{exported, arcs_at, arcs_before, Arcs, Shared, Lent}
 use Rattle.spots.specs.declared.Spot.{Spot}
-use Rattle.spots.specs.declared.Next.TheVariants.{At, Past}
 use Rattle.spots.specs.Spots.{transition_of, arc_count, sizes_before, Open, Spotted, Skips, moved_to, Sized, Unfolds, Due, found_by}
 use Rattle.spots.proofs.Ranges.{sum_most, size_next, sizes_whole}
 
@@ -86,7 +85,7 @@ module _ {s ms us bs : List ℕ} where
         (omega arith, omega (arith, d.table.laid.counted.marked.limits.few_conditions))
 
     pub due_lent : {own : Coloured} {t b : ℕ} → Due s ms us bs marks uses starts sizes (found_by own) t b → Lent s own.event own.rest marks uses
-    due_lent {own} d = record { in_marks = d.sized.in_marks; in_uses = d.sized.in_uses; shared = λ h. d.lent own.event own.at own.rest own.weight refl h }
+    due_lent {own} d = record { in_marks = d.sized.in_marks; in_uses = d.sized.in_uses; shared = λ h. d.lent own refl h }
 
     pub due_open : {own : Coloured} {t b : ℕ} → Due s ms us bs marks uses starts sizes (found_by own) t b → (marks' uses' starts' sizes' : List ℕ)
         → Shared s own.event marks' uses' → Arcs (net_of s) (transition_of (net_of s) own) starts' sizes' → Open s ms us bs marks' uses' starts' sizes' own t b
@@ -120,10 +119,10 @@ module _ {s ms us bs : List ℕ} where
           go (yes x) (no y) = absurd (omega (arith, sum_part (size (net_of s)) own.event e (omega arith)))
           go (no x) d = absurd (omega (arith, sum_part (size (net_of s)) e own.event (omega arith), o.owned.whole, o.owned.below))
 
-      next_shared : (f : Perhaps Coloured) → Belongs s (suc (transition_of (net_of s) own)) f → (e at rest weight : ℕ) → f ≡ Some e at rest weight → 0 < rest → Shared s e marks uses
-      next_shared f q e at rest weight z h =
+      next_shared : (f : Perhaps Coloured) → Belongs s (suc (transition_of (net_of s) own)) f → (next : Coloured) → f ≡ Some next → 0 < next.rest → Shared s next.event marks uses
+      next_shared f q next z h =
           let w = subst (λ (x : Perhaps Coloured). Belongs s (suc (transition_of (net_of s) own)) x) z q in
-          subst (λ (i : ℕ). Shared s i marks uses) (same_event_lem e rest w.left (omega (arith, w.whole, w.below)) h) o.shared
+          subst (λ (i : ℕ). Shared s i marks uses) (same_event_lem next.event next.rest w.left (omega (arith, w.whole, w.below)) h) o.shared
 
       pub due_next : Unfolds s ms us bs (net_of s).events → (f : Perhaps Coloured) → Belongs s (suc (transition_of (net_of s) own)) f → (b' : ℕ) → b' ≡ b + arcs_at (net_of s) t
           → Due s ms us bs marks uses starts sizes f (t + 1) b'
@@ -144,10 +143,9 @@ module _ {s ms us bs : List ℕ} where
         let z : t ≡ (exported (net_of s)).transitions = omega (arith, past, d.within, all_transitions (net_of s)) in
         d.counted ∙ ap (arcs_before (net_of s)) z
 
-    pub due_by : (f : Perhaps Coloured) (t b e at rest weight : ℕ) → f ≡ Some e at rest weight → (own : Coloured) → own ≡ owner_of e at weight rest
-        → Due s ms us bs marks uses starts sizes f t b → Due s ms us bs marks uses starts sizes (found_by own) t b
-    due_by f t b e at rest weight z own q d =
-        subst (λ (x : Perhaps Coloured). Due s ms us bs marks uses starts sizes x t b) (z ∙ sym (ap found_by q)) d
+    pub due_by : (f : Perhaps Coloured) (t b : ℕ) (own : Coloured) → f ≡ Some own → Due s ms us bs marks uses starts sizes f t b
+        → Due s ms us bs marks uses starts sizes (found_by own) t b
+    due_by f t b own z d = subst (λ (x : Perhaps Coloured). Due s ms us bs marks uses starts sizes x t b) z d
 
     pub due_first : (events : ℕ) → Unfolds s ms us bs events → Sized marks uses starts sizes → (f : Perhaps Coloured) → Belongs s 0 f → Due s ms us bs marks uses starts sizes f 0 0
     due_first events u z f q =
@@ -157,7 +155,7 @@ module _ {s ms us bs : List ℕ} where
           belongs = q;
           within = omega arith;
           counted = refl;
-          lent = λ e at rest weight p h. absurd (let w = subst (λ (x : Perhaps Coloured). Belongs s 0 x) p q in omega (arith, w.left));
+          lent = λ own p h. absurd (let w = subst (λ (x : Perhaps Coloured). Belongs s 0 x) p q in omega (arith, w.left));
         }
 
     -- ---- the spots of an open transition

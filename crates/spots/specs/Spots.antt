@@ -1,5 +1,5 @@
 -- Where an arc of an export stands, kept by value, and what the walks over the arcs need and leave.
-use Rattle.std.specs.Prelude.{ℕ, ◌+◌, ◌*◌, ◌≤◌, ◌<◌, ◌≡◌, List, length, get_or}
+use Rattle.std.specs.Prelude.{Option, None, Some, ℕ, ◌+◌, ◌*◌, ◌≤◌, ◌<◌, ◌≡◌, List, length, get_or}
 use Rattle.lists.specs.Lists.{sum}
 use Rattle.model.specs.Net.{Net}
 use Rattle.model.specs.Numbering.{size, event_count}
@@ -8,15 +8,11 @@ use Rattle.table.specs.Decoded.{net_of}
 use Rattle.layout.specs.Laid.{Laid}
 use Rattle.layout.specs.Unfolds.{unfolding_of}
 use Rattle.unfolding.specs.Numbers.{Belongs}
-use Rattle.std.specs.Prelude.{Option as Perhaps}
-use Rattle.std.specs.Prelude.{None, Some}
 use Rattle.unfolding.specs.declared.Coloured.{Coloured}
-use Rattle.segments.specs.Ranges.{owner_of, Owned}
+use Rattle.segments.specs.Ranges.{Owned}
 use Rattle.arcs.specs.Arcs.{exported, arcs_at, arcs_before, Arcs, Shared}
 use Rattle.spots.specs.declared.Spot.{Spot}
 use Rattle.spots.specs.declared.Reached.{Reached}
-use Rattle.spots.specs.declared.Next.{Next}
-use Rattle.spots.specs.declared.Next.TheVariants.{At, Past}
 
 -- The transition that what is left of an event's number names (02, No. 1).
 abbrev pub transition_of : Net → Coloured → ℕ
@@ -75,22 +71,22 @@ pub record Unfolds (s ms us bs : List ℕ) (events : ℕ) : Type 0 where
 
 -- A transition that is due: its owner or that there is none, how many arcs come before its own, and lent memory that may be that of the
 -- transition before it (02, No. 1).
-pub record Due (s ms us bs marks uses starts sizes : List ℕ) (f : Perhaps Coloured) (transition before : ℕ) : Type 0 where
+pub record Due (s ms us bs marks uses starts sizes : List ℕ) (f : Option Coloured) (transition before : ℕ) : Type 0 where
   pub table : Unfolds s ms us bs (net_of s).events
   pub sized : Sized marks uses starts sizes
   pub belongs : Belongs s transition f
   pub within : transition ≤ event_count (net_of s)
   pub counted : before ≡ arcs_before (net_of s) transition
-  pub lent : (e at rest weight : ℕ) → f ≡ Some e at rest weight → 0 < rest → Shared s e marks uses
+  pub lent : (own : Coloured) → f ≡ Some own → 0 < own.rest → Shared s own.event marks uses
 
 -- What the number of an unfolded event names, as it is found (01, Unfolding).
-abbrev pub found_by : Coloured → Perhaps Coloured
-found_by own = Some own.event own.at own.rest own.weight
+abbrev pub found_by : Coloured → Option Coloured
+found_by own = Some own
 
 -- The arc with a number, or that there is none and the number is that of all arcs (02, No. 1).
-abbrev pub Reads : List ℕ → List ℕ → List ℕ → List ℕ → List ℕ → List ℕ → List ℕ → List ℕ → ℕ → Next → Type 0
-Reads s ms us bs marks uses starts sizes a (At p) = Spotted s ms us bs marks uses starts sizes p × (p.number ≡ a)
-Reads s ms us bs marks uses starts sizes a Past = a ≡ arc_count (net_of s)
+abbrev pub Reads : List ℕ → List ℕ → List ℕ → List ℕ → List ℕ → List ℕ → List ℕ → List ℕ → ℕ → Option Spot → Type 0
+Reads s ms us bs marks uses starts sizes a (Some p) = Spotted s ms us bs marks uses starts sizes p × (p.number ≡ a)
+Reads s ms us bs marks uses starts sizes a None = a ≡ arc_count (net_of s)
 
 -- Where a search for an arc by number ends: at the transition that has it, or after all arcs (02, No. 1).
 pub record Reaches (s ms us bs : List ℕ) (wanted : ℕ) (marks uses starts sizes : List ℕ) (r : Reached) : Type 0 where
@@ -101,7 +97,7 @@ pub record Reaches (s ms us bs : List ℕ) (wanted : ℕ) (marks uses starts siz
 
 -- A search that found no transition after so many arcs.
 abbrev pub at_none : ℕ → Reached
-at_none before = record { own = owner_of 0 0 0 0; transition = 0; before = before; arcs = 0 }
+at_none before = record { own = record { event = 0; at = 0; weight = 0; rest = 0 }; transition = 0; before = before; arcs = 0 }
 
 -- A wanted number stands among the numbers of some ranges, which come after so many others.
 pub record Holding (sizes : List ℕ) (before wanted : ℕ) : Type 0 where

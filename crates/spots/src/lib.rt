@@ -18,13 +18,6 @@ pub struct Spot {
     pub offset: u32,
 }
 
-// The arc with a number, or that there is none.
-#[derive(Clone, Copy)]
-pub enum Next {
-    At(Spot),
-    Past,
-}
-
 // Where a search for an arc ends: the transition that was opened last, how many arcs come before its own, and how many it has.
 #[derive(Clone, Copy)]
 pub struct Reached {
@@ -61,13 +54,11 @@ fn moved(spot: Spot, range: usize, offset: u32) -> Spot
     requires { spot.number < 1099511627776 }
     ensures { result ≡ moved_to spot range offset }
 {
-    let own = spot.own;
     Spot {
-        own,
-        transition: spot.transition,
         number: spot.number + 1,
         range,
         offset,
+        ..spot
     }
 }
 
@@ -114,17 +105,17 @@ fn spot_from<'a>(
     uses: &mut [u32],
     starts: &mut [u32],
     sizes: &mut [u32],
-) -> Next
+) -> Option<Spot>
     requires { Due table.now markers.now users.now bases.now marks.old uses.old starts.old sizes.old found transition number }
     ensures { Reads table.now markers.now users.now bases.now marks.new uses.new starts.new sizes.new number result }
 {
     let Some(own) = found else {
-        return Next::Past;
+        return None;
     };
     let spot = open_spot(
         table, markers, users, bases, own, transition, number, marks, uses, starts, sizes,
     );
-    Next::At(spot)
+    Some(spot)
 }
 
 // The arc after one: in its range, in a later range, or the first of the next transition.
@@ -139,21 +130,20 @@ pub fn next_spot<'a>(
     uses: &mut [u32],
     starts: &mut [u32],
     sizes: &mut [u32],
-) -> Next
+) -> Option<Spot>
     requires { Unfolds table.now markers.now users.now bases.now events × Spotted table.now markers.now users.now bases.now marks.old uses.old starts.old sizes.old spot }
     ensures { Reads table.now markers.now users.now bases.now marks.new uses.new starts.new sizes.new (spot.number + 1) result }
 {
     let here = spot.range;
     if spot.offset + 1 < sizes[here] {
-        return Next::At(moved(spot, here, spot.offset + 1));
+        return Some(moved(spot, here, spot.offset + 1));
     }
     let ranges = range_count(table);
     let range = next_range(&sizes[..], ranges, here + 1);
     if range < ranges {
-        return Next::At(moved(spot, range, 0));
+        return Some(moved(spot, range, 0));
     }
-    let own = spot.own;
-    let found = arcs::next_owner(table, events, markers, own);
+    let found = arcs::next_owner(table, events, markers, spot.own);
     spot_from(
         table,
         markers,
@@ -173,9 +163,13 @@ pub fn next_spot<'a>(
 fn nowhere(before: usize) -> Reached
     ensures { result ≡ at_none before }
 {
-    let own = segments::own(0, 0, 0, 0);
     Reached {
-        own,
+        own: Coloured {
+            event: 0,
+            at: 0,
+            weight: 0,
+            rest: 0,
+        },
         transition: 0,
         before,
         arcs: 0,
@@ -233,9 +227,8 @@ pub fn spot_in(reached: Reached, wanted: usize, sizes: &[u32]) -> Spot
         left = left - sizes[range];
         range = range + 1;
     }
-    let own = reached.own;
     Spot {
-        own,
+        own: reached.own,
         transition: reached.transition,
         number: wanted,
         range,

@@ -15,7 +15,7 @@ returns-in_default c =
 
 pub open_transition-arcs-requires : goal.open_transition-arcs-requires
 open_transition-arcs-requires c =
-    let d = due_by _ _ _ _ _ _ _ c.in-At.is c.own-own.result c.own-own.ensures c.loop-found.invariant.0 in
+    let d = due_by _ _ _ _ c.in-Some.is c.loop-found.invariant.0 in
     record {
       owned = due_owned d;
       lent = due_lent d;
@@ -24,7 +24,7 @@ open_transition-arcs-requires c =
 
 pub overflow_add-before : goal.overflow_add-before
 overflow_add-before c =
-    let d = due_by _ _ _ _ _ _ _ c.in-At.is c.own-own.result c.own-own.ensures c.loop-found.invariant.0 in
+    let d = due_by _ _ _ _ c.in-Some.is c.loop-found.invariant.0 in
     omega (arith, sum_low c.args.wanted d c.open_transition-arcs.result c.open_transition-arcs.ensures.told)
 
 pub shape_of-marks-then-wanted-before : goal.shape_of-marks-then-wanted-before
@@ -45,12 +45,12 @@ shape_of-sizes-then-wanted-before c =
 
 pub returns-then-wanted-before : goal.returns-then-wanted-before
 returns-then-wanted-before c =
-    let d = due_by _ _ _ _ _ _ _ c.in-At.is c.own-own.result c.own-own.ensures c.loop-found.invariant.0 in
+    let d = due_by _ _ _ _ c.in-Some.is c.loop-found.invariant.0 in
     reaches_here c.args.wanted d _ _ _ _ c.open_transition-arcs.ensures.shared c.open_transition-arcs.ensures.laid c.open_transition-arcs.result c.open_transition-arcs.ensures.told c.loop-found.invariant.1 c.if-wanted-before.true
 
 pub next_owner-found-requires : goal.next_owner-found-requires
 next_owner-found-requires c =
-    let d = due_by _ _ _ _ _ _ _ c.in-At.is c.own-own.result c.own-own.ensures c.loop-found.invariant.0 in
+    let d = due_by _ _ _ _ c.in-Some.is c.loop-found.invariant.0 in
     record {
       within = within_laid _ _ _ _ _ c.requires.0.laid c.requires.0.all;
       owner = owner_at (due_owned d);
@@ -58,20 +58,20 @@ next_owner-found-requires c =
 
 pub overflow_add-transition : goal.overflow_add-transition
 overflow_add-transition c =
-    let d = due_by _ _ _ _ _ _ _ c.in-At.is c.own-own.result c.own-own.ensures c.loop-found.invariant.0 in
+    let d = due_by _ _ _ _ c.in-Some.is c.loop-found.invariant.0 in
     omega (arith, due_low c.args.wanted d, d.table.laid.few_events)
 
 pub overflow_add-before-in-loop-found : goal.overflow_add-before-in-loop-found
 overflow_add-before-in-loop-found c =
-    let d = due_by _ _ _ _ _ _ _ c.in-At.is c.own-own.result c.own-own.ensures c.loop-found.invariant.0 in
+    let d = due_by _ _ _ _ c.in-Some.is c.loop-found.invariant.0 in
     omega (arith, sum_low c.args.wanted d c.open_transition-arcs.result c.open_transition-arcs.ensures.told)
 
 pub loop-found-smaller : goal.loop-found-smaller
 loop-found-smaller c =
-    let d = due_by _ _ _ _ _ _ _ c.in-At.is c.own-own.result c.own-own.ensures c.loop-found.invariant.0 in
+    let d = due_by _ _ _ _ c.in-Some.is c.loop-found.invariant.0 in
     omega (arith, due_low c.args.wanted d)
 
 pub loop-found-preserved : goal.loop-found-preserved
 loop-found-preserved c =
-    let d = due_by _ _ _ _ _ _ _ c.in-At.is c.own-own.result c.own-own.ensures c.loop-found.invariant.0 in
+    let d = due_by _ _ _ _ c.in-Some.is c.loop-found.invariant.0 in
     reaches_on c.args.wanted d _ _ _ _ c.open_transition-arcs.ensures.shared c.open_transition-arcs.ensures.laid c.open_transition-arcs.result c.open_transition-arcs.ensures.told c.if-wanted-before.false c.next_owner-found.result c.next_owner-found.ensures

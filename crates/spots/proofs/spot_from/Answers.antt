@@ -8,4 +8,4 @@ returns-in_default c =
 
 pub open_spot-spot-requires : goal.open_spot-spot-requires
 open_spot-spot-requires c =
-    due_by _ _ _ _ _ _ _ c.in-At.is c.own-own.result c.own-own.ensures c.requires
+    due_by _ _ _ _ c.in-Some.is c.requires
