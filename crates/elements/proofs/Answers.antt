@@ -1,6 +1,6 @@
 -- How the calls answer, and what is open once a table is opened.
 use Prim.Native.Nat.{ℕ, ◌+◌, ◌*◌, ◌≤◌, ◌<◌}
-use mathlib.Core.Path.{◌≡◌, sym, ◌∙◌, ap, subst}
+use mathlib.Core.Path.{refl, ◌≡◌, sym, ◌∙◌, ap, subst}
 use mathlib.Core.Bool.{true, false}
 use mathlib.Core.List.{List, ◌++◌}
 use lib.Dec.{ltb}
@@ -16,9 +16,9 @@ use Rattle.model.specs.Numbering.{size}
 use Rattle.model.proofs.Lent.{length_bytes, bytes_at}
 use Rattle.refusal.specs.declared.Refusal.{Refusal}
 use Rattle.refusal.specs.Answer.{Judged}
-use Rattle.std.specs.Prelude.{Ok, Err}
+use Rattle.std.specs.Prelude.{Result, Ok, Err, IsOk}
 use Rattle.refusal.specs.Answer.{refused_at, value_of, need, fitting, written}
-use Rattle.refusal.proofs.Chain.{never_both, need_passes, need_refuses, fitting_room}
+use Rattle.refusal.proofs.Chain.{never_both, ok_is, need_passes, need_refuses, fitting_room}
 use Rattle.records.specs.Records.{conditions}
 use Rattle.table.specs.Decoded.{net_of}
 use Rattle.layout.specs.Laid.{LaidOut}
@@ -40,7 +40,7 @@ use Rattle.export_places.proofs.Places.{places_are, transitions_are, found_there
 use Rattle.elements.specs.declared.Opened.{Opened}
 use Rattle.elements.specs.Calls.{elements_of, element_text, element_count_of, element_of, element_written_of}
 use Rattle.spelling.specs.Puts.{Puts}
-use Rattle.elements.specs.Needs.{Ready, Opens}
+use Rattle.elements.specs.Needs.{Ready, events_in, Opens}
 use Rattle.elements.proofs.Reading.{elements_all, text_is}
 
 -- ---- a table laid out
@@ -81,6 +81,11 @@ module _ (s start : List ℕ) (u : (own : Judged) → unfolding_of s own ≡ own
       ap (λ (a : Judged). written a (bytes (basic (net_of s)).conditions (begin (basic (net_of s)))) start)
       (u (fitting (basic (net_of s)).conditions (length start)) ∙ fitting_room (basic (net_of s)).conditions (length start) room)
 
+  -- the start has room, so it is never refused
+  pub start_fine : {r : Judged} → r ≡ unfolded_start_of s (length start) → IsOk r
+  unfolding unfolded_start_of
+  start_fine e = rw (e ∙ u (fitting (basic (net_of s)).conditions (length start)) ∙ fitting_room (basic (net_of s)).conditions (length start) room) refl
+
   pub start_at : (after : List ℕ) → after ≡ unfolded_started_of s start → (b : ℕ) → b < (basic (net_of s)).conditions → get_or after b 0 ≡ bit (begin (basic (net_of s)) b)
   start_at after q b h =
       let begun : List ℕ = bytes (basic (net_of s)).conditions (begin (basic (net_of s))) in
@@ -95,9 +100,10 @@ module _ (s start : List ℕ) (u : (own : Judged) → unfolding_of s own ≡ own
 
 -- ---- a table opened
 
-pub opened_refused : (s ms us bs start : List ℕ) {answer : Judged} {x : Refusal} → LaidOut s answer ms us bs → answer ≡ Err x → (o : Opened) → o.answer ≡ answer → Opens s o ms us bs start
+pub opened_refused : (s ms us bs start : List ℕ) {answer : Judged} {x : Refusal} → LaidOut s answer ms us bs → answer ≡ Err x
+    → (o : Result Opened Refusal) → o ≡ Err x → Opens s o ms us bs start
 opened_refused s ms us bs start l e o z =
-    record { told = z ∙ l.answer; ready = λ k q. never_both (sym q ∙ z ∙ e) }
+    record { told = ap events_in z ∙ sym e ∙ l.answer; ready = λ k q. never_both (sym q ∙ z) }
 
 module _ (s ms us bs start after : List ℕ) {answer : Judged} (l : LaidOut s answer ms us bs) (k : ℕ) (e : answer ≡ Ok k) where
   pub opened_ready : length start ≡ most_unfolded → (c m : ℕ) → c ≡ get_or bs (conditions s) 0 → m ≡ sum (size (net_of s)) k → after ≡ unfolded_started_of s start → Ready s k c m ms us bs after
@@ -111,12 +117,18 @@ module _ (s ms us bs start after : List ℕ) {answer : Judged} (l : LaidOut s an
         begun = λ b h. start_at s start u.unfolds room after z b (omega arith);
       }
 
+  pub opened_start : length start ≡ most_unfolded → {r : Judged} → r ≡ unfolded_start_of s (length start) → IsOk r
+  opened_start long q =
+      let u = laid_unfolds s ms us bs l k e in
+      let room : (basic (net_of s)).conditions ≤ length start = omega (arith, conditions_basic (net_of s), u.laid.few_conditions) in
+      start_fine s start u.unfolds room q
+
   pub opened_fine : length start ≡ most_unfolded → (c m : ℕ) → c ≡ get_or bs (conditions s) 0 → m ≡ sum (size (net_of s)) k → after ≡ unfolded_started_of s start
-      → Opens s (record { answer = Ok k; events = k; conditions = c; transitions = m }) ms us bs after
+      → Opens s (Ok (record { events = k; conditions = c; transitions = m })) ms us bs after
   opened_fine long c m p q z =
       record {
         told = sym e ∙ l.answer;
-        ready = λ j w. opened_ready long c m p q z;
+        ready = λ o w. subst (λ (x : Opened). Ready s x.events x.conditions x.transitions ms us bs after) (ok_is w) (opened_ready long c m p q z);
       }
 
 -- ---- an element by its number

@@ -22,10 +22,9 @@ use refusal::Refusal;
 // No export has so many arcs.
 const PAST_ALL: usize = 1099511627776;
 
-// What a table is opened to: the number of its events or the refusal, then how many unfolded conditions and events.
+// What a table is opened to: the number of its events, then how many unfolded conditions and events.
 #[derive(Clone, Copy)]
 pub struct Opened {
-    pub answer: Result<usize, Refusal>,
     pub events: usize,
     pub conditions: usize,
     pub transitions: usize,
@@ -88,18 +87,6 @@ pub fn element_count(table: &[u8]) -> Result<usize, Refusal>
     Ok(count_elements(table, events, &markers, &users, &bases))
 }
 
-// A refusal, with nothing opened.
-fn refused(answer: Result<usize, Refusal>) -> Opened
-    ensures { result.answer ≡ answer }
-{
-    Opened {
-        answer,
-        events: 0,
-        conditions: 0,
-        transitions: 0,
-    }
-}
-
 // A table opened for its export: laid out, its unfolded conditions and events counted, and the bytes of the unfolded start put.
 pub fn open(
     table: &[u8],
@@ -107,23 +94,19 @@ pub fn open(
     users: &mut [u32],
     bases: &mut [u32],
     start: &mut [u8],
-) -> Opened
+) -> Result<Opened, Refusal>
     requires { (length markers.old ≡ 256) × (length users.old ≡ 256) × (length bases.old ≡ 257) × (length start.old ≡ most_unfolded) }
     ensures { Opens table.now result markers.new users.new bases.new start.new }
 {
-    let answer = layout::lay_out(table, markers, users, bases);
-    let Ok(events) = answer else {
-        return refused(answer);
-    };
+    let events = layout::lay_out(table, markers, users, bases)?;
     let conditions = condition_count(table, &bases[..]);
     let transitions = unfolding::colours_before(table, events, &markers[..], events);
-    starting::unfolded_start(table, start);
-    Opened {
-        answer,
+    starting::unfolded_start(table, start).unwrap();
+    Ok(Opened {
         events,
         conditions,
         transitions,
-    }
+    })
 }
 
 // An element by its number, of a table that is open, written into a lent output.
@@ -177,8 +160,7 @@ pub fn element(table: &[u8], i: usize, out: &mut [u8]) -> Result<usize, Refusal>
     let mut users = [0u32; 256];
     let mut bases = [0u32; 257];
     let mut start = [0u8; 65535];
-    let opened = open(table, &mut markers, &mut users, &mut bases, &mut start);
-    opened.answer?;
+    let opened = open(table, &mut markers, &mut users, &mut bases, &mut start)?;
     element_in(
         table,
         opened.events,

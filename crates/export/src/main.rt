@@ -90,12 +90,10 @@ fn export(rt: &impl Print, table: &[u8]) -> io::Result<()> {
     let mut users = [0u32; 256];
     let mut bases = [0u32; 257];
     let mut start = [0u8; 65535];
-    let opened = elements::open(table, &mut markers, &mut users, &mut bases, &mut start);
-    let answer = opened.answer;
-    let Ok(_) = answer else {
-        return files::refuse(rt, answer);
-    };
-    show(rt, table, opened, &markers, &users, &bases, &start)
+    match elements::open(table, &mut markers, &mut users, &mut bases, &mut start) {
+        Ok(opened) => show(rt, table, opened, &markers, &users, &bases, &start),
+        Err(refusal) => files::refuse(rt, Err(refusal)),
+    }
 }
 
 fn main(rt: HostRuntime) -> io::Result<()> {

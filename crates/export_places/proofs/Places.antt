@@ -13,8 +13,8 @@ use Rattle.unfolding.proofs.Numbered.{events_basic}
 use Rattle.arcs.specs.Arcs.{exported}
 use Rattle.arcs.proofs.Exported.{conditions_basic}
 use Rattle.spots.specs.declared.Spot.{Spot}
-use Rattle.spots.specs.declared.Next.{Next}
-use Rattle.spots.specs.declared.Next.TheVariants as next
+use Rattle.std.specs.Prelude.{Option}
+use Rattle.std.specs.Prelude.{None, Some}
 use Rattle.spots.specs.Spots.{arc_count, Spotted, Reads}
 use Rattle.export_places.specs.declared.Place as declared
 use Rattle.export_places.specs.declared.Place.TheVariants.{Opens, Place, Transition, Arc, Closes, Over}
@@ -91,15 +91,15 @@ module _ {s ms us bs marks uses starts sizes : List ℕ} where
   pub follows_found : (i : ℕ) (place r : declared.Place) → NextIs (net_of s) place i → Finds s ms us bs marks uses starts sizes i r → Follows s ms us bs marks uses starts sizes place r
   follows_found i place r h f = record { stands = f.stands; after = λ _. f.here h.1 ∙ h.0 }
 
-  pub follows_spot : (p : Spot) (x : Next) → Reads s ms us bs marks uses starts sizes (p.number + 1) x → (place : declared.Place) → place ≡ Arc p → (r : declared.Place) → r ≡ place_of x
+  pub follows_spot : (p : Spot) (x : Option Spot) → Reads s ms us bs marks uses starts sizes (p.number + 1) x → (place : declared.Place) → place ≡ Arc p → (r : declared.Place) → r ≡ place_of x
       → Follows s ms us bs marks uses starts sizes place r
   follows_spot p x h place e r z =
       subst (λ (y : declared.Place). Follows s ms us bs marks uses starts sizes place y) (sym z)
       (subst (λ (y : declared.Place). Follows s ms us bs marks uses starts sizes y (place_of x)) (sym e) (go x h))
     where
-      go : (x : Next) → Reads s ms us bs marks uses starts sizes (p.number + 1) x → Follows s ms us bs marks uses starts sizes (Arc p) (place_of x)
-      go (next.At q) h = record { stands = h.0; after = λ _. omega (arith, h.1) }
-      go next.Past h = record { stands = tt; after = λ _. omega (arith, h) }
+      go : (x : Option Spot) → Reads s ms us bs marks uses starts sizes (p.number + 1) x → Follows s ms us bs marks uses starts sizes (Arc p) (place_of x)
+      go (Some q) h = record { stands = h.0; after = λ _. omega (arith, h.1) }
+      go None h = record { stands = tt; after = λ _. omega (arith, h) }
 
   pub follows_closes : (place : declared.Place) → place ≡ Closes → Follows s ms us bs marks uses starts sizes place Over
   follows_closes place e =

@@ -3,8 +3,9 @@ use Rattle.std.specs.Prelude.{ℕ, ◌+◌, ◌<◌, Bool, true, false, List}
 use Rattle.model.specs.Net.{Net}
 use Rattle.table.specs.Decoded.{net_of}
 use Rattle.arcs.specs.Arcs.{exported}
-use Rattle.spots.specs.declared.Next.{Next}
-use Rattle.spots.specs.declared.Next.TheVariants as next
+use Rattle.std.specs.Prelude.{Option}
+use Rattle.spots.specs.declared.Spot.{Spot}
+use Rattle.std.specs.Prelude.{None, Some}
 use Rattle.spots.specs.Spots.{arc_count, Spotted}
 use Rattle.export_places.specs.declared.Place as declared
 use Rattle.export_places.specs.declared.Place.TheVariants.{Opens, Place, Transition, Arc, Closes, Over}
@@ -37,6 +38,6 @@ Stands s ms us bs marks uses starts sizes Closes = Unit {0}
 Stands s ms us bs marks uses starts sizes Over = Unit {0}
 
 -- The place of the arc that comes next, or of what closes (02, No. 1).
-abbrev pub place_of : Next → declared.Place
-place_of (next.At p) = Arc p
-place_of next.Past = Closes
+abbrev pub place_of : Option Spot → declared.Place
+place_of (Some p) = Arc p
+place_of None = Closes

@@ -10,7 +10,7 @@ ghost use Rattle.export_places.specs.Places.{goes_on, Stands, place_of};
 ghost use Rattle.export_places.specs.Needs.{Numbered, held_at, link_at, element_at, Kept, Shown, Finds, Follows};
 
 use pnml::{Element, Link};
-use spots::{Next, Spot};
+use spots::Spot;
 
 // Where an export stands: at what opens it, at a place, at a transition, at an arc, at what closes it, or past all.
 #[derive(Clone, Copy)]
@@ -155,12 +155,12 @@ pub fn place_at<'a>(
 }
 
 // The place of the arc that comes next, or of what closes.
-fn place_of(next: Next) -> Place
+fn place_of(next: Option<Spot>) -> Place
     ensures { result ≡ place_of next }
 {
     match next {
-        Next::At(spot) => Place::Arc(spot),
-        Next::Past => Place::Closes,
+        Some(spot) => Place::Arc(spot),
+        None => Place::Closes,
     }
 }
 

@@ -3,6 +3,6 @@ use mathlib.Core.Path.{sym, ap}
 use Rattle.export_places.specs.Places.{place_of}
 use Rattle.export_places.proofs.place_of.Goals as goal
 
-pub returns-in-At : goal.returns-in-At
-returns-in-At c =
-    ap place_of (sym c.in-At.is)
+pub returns-in-Some : goal.returns-in-Some
+returns-in-Some c =
+    ap place_of (sym c.in-Some.is)
