@@ -14,7 +14,8 @@ ghost use Rattle.stopping.specs.Table.{step_of};
 ghost use Rattle.decided.specs.Decided.{stopped_by};
 ghost use Rattle.decided.specs.Kept.{marker_at, Kept, Keeping, Choosing, Chosen, marked_at, ready_at, back_at, excused, clear_at, Deciding};
 
-use step::{Cause, Failing, Step};
+use refusal::TableCondition;
+use stopping::Cause;
 
 // The marker at a place among those of condition b, kept with its event; where it was the last one asked for, no event is looked for.
 fn keep(table: &[u8], events: usize, b: usize, place: u32, places: &mut [u32], kept: &mut [u32])
@@ -136,7 +137,7 @@ fn first_lacking<'a>(
     seen: &'a [u8],
     places: &'a [u32],
     kept: &'a [u32],
-) -> Failing
+) -> Option<TableCondition>
     ensures { result ≡ failing_of (failing (ready_at table.now state.now begun.now seen.now places.now kept.now) (words pre.now)) }
 {
     let mut i: usize = 0;
@@ -145,10 +146,10 @@ fn first_lacking<'a>(
         if is_ready(table, state, begun, seen, places, kept, b as usize) {
             i = i + 2;
         } else {
-            return Failing::At(refusal::TableCondition(b));
+            return Some(TableCondition(b));
         }
     }
-    Failing::Nothing
+    None
 }
 
 // Whether event e gives back every copy of condition b that it marks: there is no user, or e alone, whose kept marker is e.
@@ -217,7 +218,7 @@ fn first_meeting<'a>(
     state: &'a [u8],
     places: &'a [u32],
     kept: &'a [u32],
-) -> Failing
+) -> Option<TableCondition>
     requires { Members (excused table.now (words pre.now)) taken.now }
     ensures { result ≡ failing_of (failing (clear_at table.now users.now (words pre.now) e again state.now places.now kept.now) (words post.now)) }
 {
@@ -229,10 +230,10 @@ fn first_meeting<'a>(
         ) {
             i = i + 2;
         } else {
-            return Failing::At(refusal::TableCondition(b));
+            return Some(TableCondition(b));
         }
     }
-    Failing::Nothing
+    None
 }
 
 // The preconditions that excuse from contact: all, or none where the table has the old rule.
@@ -259,7 +260,7 @@ fn first_contact<'a>(
     state: &'a [u8],
     places: &'a [u32],
     kept: &'a [u32],
-) -> Failing
+) -> Option<TableCondition>
     requires { Listed pre.now }
     ensures { result ≡ failing_of (failing (clear_at table.now users.now (words pre.now) e again state.now places.now kept.now) (words post.now)) }
 {
@@ -280,14 +281,14 @@ pub fn decide<'a>(
     seen: &'a [u8],
     places: &'a [u32],
     kept: &'a [u32],
-) -> Step
+) -> Result<(), Cause<TableCondition>>
     requires { Deciding table.now users.now at e begun.now places.now kept.now }
     ensures { result ≡ step_of (stopped_by (net_of table.now) (marking state.now) (marking seen.now) (marker_at (net_of table.now) places.now) e) }
 {
     let pre = records::pre_at(table, at);
     let lacking = first_lacking(table, pre, state, begun, seen, places, kept);
-    if let Failing::At(b) = lacking {
-        return Step::Stops(Cause::Lacks(b));
+    if let Some(b) = lacking {
+        return Err(Cause::Lacks(b));
     }
     let again = words::byte(seen, e) == 1;
     let contact = first_contact(
@@ -301,8 +302,8 @@ pub fn decide<'a>(
         places,
         kept,
     );
-    if let Failing::At(b) = contact {
-        return Step::Stops(Cause::Meets(b));
+    if let Some(b) = contact {
+        return Err(Cause::Meets(b));
     }
-    Step::Goes
+    Ok(())
 }

@@ -13,13 +13,13 @@ use Rattle.stopping.specs.Table.{Step}
 use Rattle.std.specs.Prelude.{Err}
 use Rattle.stopping.specs.Causes.{goes}
 use Rattle.stopping.specs.declared.Cause.TheVariants as unfolded
-use Rattle.unfolded_step.specs.declared.Step.TheVariants as answer
+use Rattle.stopping.specs.Table as table
 use Rattle.stopping.specs.Unfolded.{step_of}
 use Rattle.decided.specs.Decided.{Picks, lacked_condition, met_condition, unfolded_stop}
 use Rattle.located.specs.Located.{said_by, stop_of, Left, Named, Told}
 
 -- what an answer says is what it was made of
-pub said_back : (o : Option Stop) → stop_of (Rattle.step.specs.Steps.step_of o) ≡ o
+pub said_back : (o : Option Stop) → stop_of (table.step_of o) ≡ o
 said_back none = refl
 said_back (some unknown) = refl
 said_back (some (lacks b)) = refl
@@ -39,16 +39,16 @@ module _ (n : Net) (pick : Picks) (e : ℕ) where
 
   -- ---- the answers
 
-  pub unknown_there : {x : Cause} → x ≡ Unknown → answer.Stops unfolded.Unknown ≡ step_of (unfolded_stop n pick e (some (said_by x)))
+  pub unknown_there : {x : Cause} → x ≡ Unknown → Err unfolded.Unknown ≡ step_of (unfolded_stop n pick e (some (said_by x)))
   unknown_there z = rw z
 
   pub lacked_there : {x : Cause} {b : TableCondition} {k : ℕ} → x ≡ Lacks b → k ≡ condition_number n (lacked_condition n pick e b.0)
-      → answer.Stops (unfolded.Lacks (record { 0 = k })) ≡ step_of (unfolded_stop n pick e (some (said_by x)))
+      → Err (unfolded.Lacks (record { 0 = k })) ≡ step_of (unfolded_stop n pick e (some (said_by x)))
   lacked_there z h = rw (z, h)
 
   pub met_there : {x : Cause} {b : TableCondition} {k : ℕ} → x ≡ Meets b → k ≡ condition_number n (met_condition n pick e b.0)
-      → answer.Stops (unfolded.Meets (record { 0 = k })) ≡ step_of (unfolded_stop n pick e (some (said_by x)))
+      → Err (unfolded.Meets (record { 0 = k })) ≡ step_of (unfolded_stop n pick e (some (said_by x)))
   met_there z h = rw (z, h)
 
-  pub goes_there : {r : Step} → r ≡ goes → answer.Goes ≡ step_of (unfolded_stop n pick e (stop_of r))
+  pub goes_there : {r : Step} → r ≡ goes → goes ≡ step_of (unfolded_stop n pick e (stop_of r))
   goes_there z = rw z

@@ -11,8 +11,7 @@ use Rattle.layout.specs.Laid.{Counted}
 use Rattle.stopping.specs.Table.{Cause}
 use Rattle.stopping.specs.declared.Cause.TheVariants.{Unknown, Lacks, Meets}
 use Rattle.stopping.specs.Table.{Step}
-use Rattle.std.specs.Prelude.{Err}
-use Rattle.stopping.specs.Causes.{goes}
+use Rattle.std.specs.Prelude.{Ok, Err}
 use Rattle.stopping.specs.Table.{step_of}
 use Rattle.decided.specs.Decided.{Picks, Seen, given_back, stopped_by}
 use Rattle.decided.specs.Kept.{Kept}
@@ -27,7 +26,7 @@ said_by (Meets b) = meets b.0
 
 -- What a step's answer says that stops it (01, Refusal numbers).
 abbrev pub stop_of : Step → Option Stop
-stop_of goes = none
+stop_of (Ok done) = none
 stop_of (Err x) = some (said_by x)
 
 -- ---- the copy that is met

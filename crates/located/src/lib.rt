@@ -10,14 +10,14 @@ ghost use Rattle.model.specs.Across.{most_unfolded};
 ghost use Rattle.table.specs.Decoded.{net_of};
 ghost use Rattle.layout.specs.Laid.{Counted};
 ghost use Rattle.tally.specs.Having.{having};
-ghost use Rattle.unfolded_step.specs.declared.Step.TheVariants.{Stops};
+ghost use Rattle.std.specs.Prelude.{Err};
 ghost use Rattle.stopping.specs.Unfolded.{step_of};
 ghost use Rattle.decided.specs.Decided.{lacked_condition, met_condition, unfolded_stop};
 ghost use Rattle.decided.specs.Kept.{marker_at};
 ghost use Rattle.located.specs.Located.{said_by, stop_of, passed_at, Locating, Left, Named, Told};
 
-use refusal::{Marker, TableEvent, UnfoldedCondition};
-use unfolded_step::{Cause, Step};
+use refusal::{Marker, TableCondition, TableEvent, UnfoldedCondition};
+use stopping::Cause;
 
 // The number of condition b's first copy: how many copies the conditions before it have.
 fn base<'a>(table: &'a [u8], markers: &'a [u32], users: &'a [u32], b: usize) -> u32
@@ -118,19 +118,19 @@ fn relocated<'a>(
     e: usize,
     places: &'a [u32],
     kept: &'a [u32],
-    cause: step::Cause,
-) -> Cause
+    cause: Cause<TableCondition>,
+) -> Cause<UnfoldedCondition>
     requires locating { Locating table.now markers.now users.now events e places.now kept.now }
     requires named { Named (net_of table.now) (marker_at (net_of table.now) places.now) e cause }
-    ensures { Stops result ≡ step_of (unfolded_stop (net_of table.now) (marker_at (net_of table.now) places.now) e (some (said_by cause))) }
+    ensures { Err result ≡ step_of (unfolded_stop (net_of table.now) (marker_at (net_of table.now) places.now) e (some (said_by cause))) }
 {
     match cause {
-        step::Cause::Unknown => Cause::Unknown,
-        step::Cause::Lacks(b) => {
+        Cause::Unknown => Cause::Unknown,
+        Cause::Lacks(b) => {
             let k = lacked(table, events, markers, users, e, places, kept, b.0 as usize);
             Cause::Lacks(UnfoldedCondition(k as u16))
         }
-        step::Cause::Meets(b) => {
+        Cause::Meets(b) => {
             let k = met(table, events, markers, users, e, places, kept, b.0 as usize);
             Cause::Meets(UnfoldedCondition(k as u16))
         }
@@ -147,17 +147,16 @@ pub fn locate<'a>(
     e: usize,
     places: &'a [u32],
     kept: &'a [u32],
-    step: step::Step,
-) -> Step
+    step: Result<(), Cause<TableCondition>>,
+) -> Result<(), Cause<UnfoldedCondition>>
     requires locating { Locating table.now markers.now users.now events e places.now kept.now }
     requires told { Told (net_of table.now) (marker_at (net_of table.now) places.now) e step }
     ensures { result ≡ step_of (unfolded_stop (net_of table.now) (marker_at (net_of table.now) places.now) e (stop_of step)) }
 {
     match step {
-        step::Step::Goes => Step::Goes,
-        step::Step::Stops(cause) => {
-            let found = relocated(table, events, markers, users, e, places, kept, cause);
-            Step::Stops(found)
-        }
+        Ok(()) => Ok(()),
+        Err(cause) => Err(relocated(
+            table, events, markers, users, e, places, kept, cause,
+        )),
     }
 }
