@@ -48,7 +48,7 @@ pub fn lay_out_run(
     }
     let events = layout::lay_out(table, markers, users, bases)?;
     sizes_before(table, events, &markers[..], before);
-    r
+    Ok(events)
 }
 
 // The event that an unfolded event's number belongs to, found by halving.
