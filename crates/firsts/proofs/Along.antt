@@ -20,21 +20,20 @@ use Rattle.model.specs.Across.{marks_for_others, own_or_earliest, repeated}
 use Rattle.model.proofs.Firing.{runs_first, runs_rest, can_event}
 use Rattle.model.proofs.Laws.{marked, First, Reached}
 use Rattle.model.proofs.Copies.{reached_opening, reached_step}
-use Rattle.firsts.specs.declared.First.TheVariants.{Unset}
-use Rattle.firsts.specs.declared.Slot.{Slot}
-use Rattle.firsts.specs.declared.Repeat.{Repeat}
-use Rattle.firsts.specs.declared.Repeat.TheVariants.{Never, At}
+use Rattle.std.specs.Prelude.{Option as Perhaps}
+use Rattle.std.specs.Prelude.{None, Some}
+use Rattle.std.specs.Option.{option_or}
 use Rattle.firsts.specs.declared.Walked.{Walked}
-use Rattle.firsts.specs.Firsts.{first_of, first_at, no_slots, repeat_of, sooner}
+use Rattle.firsts.specs.Firsts.{Slot, first_of, first_at, no_slots, repeat_of}
 use Rattle.firsts.specs.Walks.{Tells, Occurred, Walks}
 
 -- the repeat that was met, else the one that is to come
-abbrev soonest : Repeat → Option ℕ → Option ℕ
-soonest Never o = o
-soonest (At k) o = some k
+abbrev soonest : Perhaps ℕ → Option ℕ → Option ℕ
+soonest None o = o
+soonest (Some k) o = some k
 
 -- the walk has taken k steps of the run
-pub record Along (n : Net) (r : List ℕ) (k : ℕ) (repeat : Repeat) (slots : List Slot) (seen : List ℕ) : Type 0 where
+pub record Along (n : Net) (r : List ℕ) (k : ℕ) (repeat : Perhaps ℕ) (slots : List Slot) (seen : List ℕ) : Type 0 where
   pub state : State
   pub upto : k ≤ length r
   pub rest : after n state (drop k r) ≡ after n (opening n) r
@@ -48,10 +47,11 @@ pub record Along (n : Net) (r : List ℕ) (k : ℕ) (repeat : Repeat) (slots : L
 
 pub none_set : (b : ℕ) → first_at no_slots b ≡ none
 unfolding no_slots
-none_set b = ap (λ (x : Slot). first_of x.0) (replicate_at {A = Slot} 256 b (record { 0 = Unset }))
+none_set b = ap first_of (replicate_at {A = Slot} 256 b None)
 
 pub along_start : (n : Net) (r : List ℕ) (slots : List Slot) (seen : List ℕ) → T (runs n (begin n) r) → length slots ≡ 256
-    → ((b : ℕ) → b < 256 → first_at slots b ≡ marker (n.persistent b) (mem b n.start) at_start) → seen ≡ replicate 256 0 → Along n r 0 Never slots seen
+    → ((b : ℕ) → b < 256 → first_at slots b ≡ marker (n.persistent b) (mem b n.start) at_start)
+    → seen ≡ replicate 256 0 → Along n r 0 None slots seen
 unfolding opening
 along_start n r slots seen t l f z =
     record {
@@ -91,8 +91,8 @@ module _ (n : Net) (k : ℕ) (s : State) (e : ℕ) (r : List ℕ) where
   unfolding repeated own_or_earliest
   repeated_later h = rw (h, repeated)
 
-module _ (n : Net) (r : List ℕ) (k : ℕ) (repeat : Repeat) (slots : List Slot) (seen : List ℕ) (a : Along n r k repeat slots seen) (h : k < length r)
-    (e : ℕ) (q : e ≡ get_or r k 0) where
+module _ (n : Net) (r : List ℕ) (k : ℕ) (repeat : Perhaps ℕ) (slots : List Slot) (seen : List ℕ) (a : Along n r k repeat slots seen)
+    (h : k < length r) (e : ℕ) (q : e ≡ get_or r k 0) where
   abbrev s : State
   s = a.state
 
@@ -109,7 +109,7 @@ module _ (n : Net) (r : List ℕ) (k : ℕ) (repeat : Repeat) (slots : List Slot
   occurred l b z = sym (a.seens.each e l) ∙ z
 
   -- what every step does to the state
-  stepped : (repeat' : Repeat) (slots' : List Slot) (seen' : List ℕ) → Tells (step n s e) slots' → Occurred (step n s e) seen'
+  stepped : (repeat' : Perhaps ℕ) (slots' : List Slot) (seen' : List ℕ) → Tells (step n s e) slots' → Occurred (step n s e) seen'
       → soonest repeat' (repeated n (own_or_earliest n) (k + 1) (step n s e) (drop (k + 1) r)) ≡ soonest repeat (repeated n (own_or_earliest n) k s (e ∷ drop (k + 1) r))
       → Along n r (k + 1) repeat' slots' seen'
   unfolding step after
@@ -163,19 +163,19 @@ module _ (n : Net) (r : List ℕ) (k : ℕ) (repeat : Repeat) (slots : List Slot
         (ap (soonest repeat) (ap (λ (j : ℕ). repeated n (own_or_earliest n) j (step n s e) (drop (k + 1) r)) (add-one k) ∙ sym (repeated_later n k s e (drop (k + 1) r) (rw m))))
 
     -- an event that marks for others occurs again
-    pub along_repeat : marks_for_others n e ≡ true → (j : ℕ) → j ≡ k → Along n r (k + 1) (sooner repeat j) slots seen
+    pub along_repeat : marks_for_others n e ≡ true → (j : ℕ) → j ≡ k → Along n r (k + 1) (option_or repeat (Some j)) slots seen
     along_repeat m j y =
-        stepped (sooner repeat j) slots seen same_firsts same_seens
+        stepped (option_or repeat (Some j)) slots seen same_firsts same_seens
         (go repeat (repeated n (own_or_earliest n) (k + 1) (step n s e) (drop (k + 1) r)) ∙ ap (soonest repeat) (sym (repeated_here n k s e (drop (k + 1) r) (rw (m, was)))))
       where
-        go : (x : Repeat) (o : Option ℕ) → soonest (sooner x j) o ≡ soonest x (some k)
-        go Never o = ap some y
-        go (At i) o = refl
+        go : (x : Perhaps ℕ) (o : Option ℕ) → soonest (option_or x (Some j)) o ≡ soonest x (some k)
+        go None o = ap some y
+        go (Some i) o = refl
 
 -- ---- the end
 
-pub along_end : (n : Net) (r : List ℕ) (k : ℕ) (repeat : Repeat) (slots : List Slot) (seen : List ℕ) → Along n r k repeat slots seen → length r ≤ k
-    → (w : Walked) → w.repeat ≡ repeat → w.firsts.slots ≡ slots → Walks n r w seen
+pub along_end : (n : Net) (r : List ℕ) (k : ℕ) (repeat : Perhaps ℕ) (slots : List Slot) (seen : List ℕ)
+    → Along n r k repeat slots seen → length r ≤ k → (w : Walked) → w.repeat ≡ repeat → w.firsts.slots ≡ slots → Walks n r w seen
 unfolding after repeated
 along_end n r k repeat slots seen a h w x y =
     let none_left = drop_of_length-le r h in
@@ -186,6 +186,6 @@ along_end n r k repeat slots seen a h w x y =
       repeat = rw x (go repeat ∙ (rw none_left at a.repeats));
     }
   where
-    go : (x : Repeat) → repeat_of x ≡ soonest x none
-    go Never = refl
-    go (At i) = refl
+    go : (x : Perhaps ℕ) → repeat_of x ≡ soonest x none
+    go None = refl
+    go (Some i) = refl

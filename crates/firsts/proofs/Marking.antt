@@ -2,13 +2,13 @@
 use Prim.Native.Nat.{ℕ, ◌+◌, ◌-◌, ◌≤◌, ◌<◌}
 use native.Mathlib.Omega.{arith}
 use native.Mathlib.Decide.{ℕ_discrete}
-use mathlib.Core.Path.{◌≡◌, refl, sym, ap, ◌∙◌}
+use mathlib.Core.Path.{◌≡◌, refl, ap, ◌∙◌}
 use mathlib.Core.Bool.{Bool, true, false, ◌||◌, cond}
 use mathlib.Core.Option.{Option, none, some}
 use mathlib.Core.List.{List, [], ◌∷◌}
 use lib.Dec.{eqb}
 use lib.ListN.{length, set, drop, length-set}
-use lib.Seq.{set-get_or, get_or-set_same, get_or-set_other}
+use lib.Seq.{get_or-set_same, get_or-set_other}
 use borrow.Author.Tests.{eq-eqb, ne_eqb}
 use Rattle.lists.specs.Lists.{mem}
 use Rattle.words.specs.Words.{word_at, words}
@@ -18,41 +18,24 @@ use Rattle.model.specs.Runs.{marker, or_else}
 use Rattle.refusal.specs.declared.Marker.{Marker}
 use Rattle.colours.specs.Colours.{flagged}
 use Rattle.unfolding.specs.Markers.{meant}
-use Rattle.firsts.specs.declared.First.{First}
-use Rattle.firsts.specs.declared.First.TheVariants.{Unset, Set}
-use Rattle.firsts.specs.declared.Slot.{Slot}
-use Rattle.firsts.specs.Firsts.{first_of, slot_at, first_at, kept, mark_one, mark_all}
+use Rattle.std.specs.Prelude.{None, Some}
+use Rattle.std.specs.Option.{option_or}
+use Rattle.firsts.specs.Firsts.{Slot, first_of, slot_at, first_at, mark_one, mark_all}
 
 -- ---- one condition
 
 module _ (s : List ℕ) (slots : List Slot) (m : Marker) (b : ℕ) where
-  pub mark_ordinary : flagged s b ≡ false → slots ≡ mark_one s slots m b
-  unfolding mark_one
-  mark_ordinary p = rw p
-
-  pub mark_unset : flagged s b ≡ true → slot_at slots b ≡ Unset → set slots b (record { 0 = Set m }) ≡ mark_one s slots m b
-  unfolding mark_one
-  mark_unset p h = rw (p, h)
-
-  pub mark_set : flagged s b ≡ true → (k : Marker) → slot_at slots b ≡ Set k → slots ≡ mark_one s slots m b
-  unfolding mark_one
-  mark_set p k h =
-      sym (ap (λ (t : Bool). cond t (set slots b (record { 0 = kept (slot_at slots b) m })) slots) p
-      ∙ ap (λ (f : First). set slots b (record { 0 = kept f m })) h
-      ∙ ap (λ (f : First). set slots b (record { 0 = f })) (sym h)
-      ∙ set-get_or slots b (record { 0 = Unset }))
-
   pub mark_length : length (mark_one s slots m b) ≡ length slots
   unfolding mark_one
   mark_length = go (flagged s b)
     where
-      go : (t : Bool) → length (cond t (set slots b (record { 0 = kept (slot_at slots b) m })) slots) ≡ length slots
-      go true = length-set slots b (record { 0 = kept (slot_at slots b) m })
+      go : (t : Bool) → length (cond t (set slots b (option_or (slot_at slots b) (Some m))) slots) ≡ length slots
+      go true = length-set slots b (option_or (slot_at slots b) (Some m))
       go false = refl
 
-  first_kept : (f : First) → first_of (kept f m) ≡ or_else (first_of f) (some (meant m))
-  first_kept Unset = refl
-  first_kept (Set k) = refl
+  first_kept : (f : Slot) → first_of (option_or f (Some m)) ≡ or_else (first_of f) (some (meant m))
+  first_kept None = refl
+  first_kept (Some k) = refl
 
   mark_here : b < length slots → first_at (mark_one s slots m b) b ≡ or_else (first_at slots b) (cond (flagged s b) (some (meant m)) none)
   unfolding mark_one
@@ -62,9 +45,10 @@ module _ (s : List ℕ) (slots : List Slot) (m : Marker) (b : ℕ) where
       same none = refl
       same (some x) = refl
 
-      go : (t : Bool) → first_at (cond t (set slots b (record { 0 = kept (slot_at slots b) m })) slots) b ≡ or_else (first_at slots b) (cond t (some (meant m)) none)
+      go : (t : Bool) → first_at (cond t (set slots b (option_or (slot_at slots b) (Some m))) slots) b
+          ≡ or_else (first_at slots b) (cond t (some (meant m)) none)
       go true =
-          ap (λ (x : Slot). first_of x.0) (get_or-set_same slots b (record { 0 = kept (slot_at slots b) m }) (record { 0 = Unset }) h)
+          ap first_of (get_or-set_same slots b (option_or (slot_at slots b) (Some m)) None h)
           ∙ first_kept (slot_at slots b)
       go false = same (first_at slots b)
 
@@ -72,8 +56,8 @@ module _ (s : List ℕ) (slots : List Slot) (m : Marker) (b : ℕ) where
   unfolding mark_one
   mark_there d z = go (flagged s b)
     where
-      go : (t : Bool) → first_at (cond t (set slots b (record { 0 = kept (slot_at slots b) m })) slots) d ≡ first_at slots d
-      go true = ap (λ (x : Slot). first_of x.0) (get_or-set_other slots b d (record { 0 = kept (slot_at slots b) m }) (record { 0 = Unset }) z)
+      go : (t : Bool) → first_at (cond t (set slots b (option_or (slot_at slots b) (Some m))) slots) d ≡ first_at slots d
+      go true = ap first_of (get_or-set_other slots b d (option_or (slot_at slots b) (Some m)) None z)
       go false = refl
 
 -- ---- a list

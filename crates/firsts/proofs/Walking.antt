@@ -21,17 +21,16 @@ use Rattle.tally.specs.Having.{list_part}
 use Rattle.tally.proofs.Events.{list_read, list_inside}
 use Rattle.layout.proofs.Limits.{flags_are}
 use Rattle.repeats.specs.Repeats.{Once}
-use Rattle.firsts.specs.declared.First.TheVariants.{Unset}
-use Rattle.firsts.specs.declared.Slot.{Slot}
-use Rattle.firsts.specs.declared.Repeat.{Repeat}
-use Rattle.firsts.specs.Firsts.{Inside, first_at, no_slots, mark_all}
+use Rattle.std.specs.Prelude.{Option as Perhaps}
+use Rattle.std.specs.Prelude.{None}
+use Rattle.firsts.specs.Firsts.{Slot, Inside, first_at, no_slots, mark_all}
 use Rattle.firsts.specs.Walks.{Walkable}
 use Rattle.firsts.proofs.Marking.{all_length, all_first}
 use Rattle.firsts.proofs.Along.{none_set, Along, along_event}
 
 no_slots_length : length no_slots ≡ 256
 unfolding no_slots
-no_slots_length = length-replicate {A = Slot} 256 (record { 0 = Unset })
+no_slots_length = length-replicate {A = Slot} 256 None
 
 module _ (s : List ℕ) (events : ℕ) (j : judge_of s ≡ Ok events) where
   pub few_events : events < 257
@@ -80,8 +79,8 @@ module _ (s : List ℕ) (events : ℕ) (j : judge_of s ≡ Ok events) where
 
 -- ---- the step that a walk is at
 
-module _ (s : List ℕ) (events : ℕ) (offsets r : List ℕ) (w : Walkable s events offsets r) (k : ℕ) (repeat : Repeat) (slots : List Slot) (seen : List ℕ)
-    (a : Along (net_of s) r k repeat slots seen) (h : k < length r) where
+module _ (s : List ℕ) (events : ℕ) (offsets r : List ℕ) (w : Walkable s events offsets r) (k : ℕ) (repeat : Perhaps ℕ)
+    (slots : List Slot) (seen : List ℕ) (a : Along (net_of s) r k repeat slots seen) (h : k < length r) where
   pub step_event : get_or r k 0 < (net_of s).events
   step_event = along_event (net_of s) r k repeat slots seen a h (get_or r k 0) refl
 

@@ -7,9 +7,8 @@ use Rattle.std.specs.Prelude.{Ok}
 use Rattle.table.specs.Walk.{judge_of}
 use Rattle.table.specs.Decoded.{net_of}
 use Rattle.played.specs.Played.{Indexed}
-use Rattle.firsts.specs.declared.Slot.{Slot}
 use Rattle.firsts.specs.declared.Walked.{Walked}
-use Rattle.firsts.specs.Firsts.{first_at, repeat_of}
+use Rattle.firsts.specs.Firsts.{Slot, first_at, repeat_of}
 
 -- A judged table with its index, and a run of it from its start.
 pub record Walkable (s : List ℕ) (events : ℕ) (offsets r : List ℕ) : Type 0 where

@@ -6,8 +6,7 @@ use mathlib.Core.List.{List, []}
 use lib.ListN.{drop}
 use Rattle.words.specs.Words.{words}
 use Rattle.tally.proofs.Lists.{inside_here, inside_later}
-use Rattle.firsts.specs.declared.Slot.{Slot}
-use Rattle.firsts.specs.Firsts.{mark_all}
+use Rattle.firsts.specs.Firsts.{Slot, mark_all}
 use Rattle.firsts.proofs.Marking.{all_next, all_end}
 use Rattle.firsts.proofs.marked.Goals as goal
 

@@ -6,6 +6,7 @@ use lib.ListN.{length, length-replicate}
 use mathlib.Core.Path.{refl, ◌∙◌, sym, ap}
 use mathlib.Core.Bool.{true, false}
 use Rattle.table.specs.Decoded.{net_of}
+use Rattle.firsts.specs.Firsts.{no_slots}
 use Rattle.firsts.proofs.Along.{along_start, along_new, along_again, along_repeat, along_end}
 use Rattle.firsts.proofs.Walking.{few_events, start_inside, start_length, start_first, post_inside, post_length, post_first, step_event, step_low, step_inside, step_offset, step_once, step_others}
 use Rattle.firsts.proofs.walk.Goals as goal
@@ -19,11 +20,12 @@ marked-firsts-requires c =
     start_inside _ _ c.requires.walkable.judged _ c.offset.ensures _ c.marking_at-start.ensures.reads
 
 pub loop-k-init : goal.loop-k-init
+unfolding no_slots
 loop-k-init c =
     let s = c.args.table.now in
     let j = c.requires.walkable.judged in
-    let long = start_length s _ j _ c.offset.ensures _ c.marking_at-start.ensures.reads _ _ c.no_firsts.ensures c.marked-firsts.ensures in
-    let first = start_first s _ j _ c.offset.ensures _ c.marking_at-start.ensures.reads _ _ c.no_firsts.ensures c.marked-firsts.ensures in
+    let long = start_length s _ j _ c.offset.ensures _ c.marking_at-start.ensures.reads _ _ refl c.marked-firsts.ensures in
+    let first = start_first s _ j _ c.offset.ensures _ c.marking_at-start.ensures.reads _ _ refl c.marked-firsts.ensures in
     along_start (net_of s) _ c.marked-firsts.result.slots _ c.requires.walkable.plays long first c.requires.seen_value
 
 pub overflow_cast-e : goal.overflow_cast-e
@@ -46,7 +48,7 @@ pub loop-k-preserved-then-once-e-eq1 : goal.loop-k-preserved-then-once-e-eq1
 loop-k-preserved-then-once-e-eq1 c =
     let low = step_low _ _ _ _ c.requires.walkable _ _ _ _ c.loop-k.invariant c.loop-k-test.true in
     let m = step_others _ _ _ _ c.requires.walkable _ _ _ _ c.loop-k.invariant c.loop-k-test.true _ c.requires.once true (eq-eqb _ 1 c.if-once-e-eq1.true) in
-    rw c.at_latest-repeat.ensures (along_repeat _ _ _ _ _ _ c.loop-k.invariant c.loop-k-test.true _ refl low c.if-seen-e-eq1.true m _ (omega arith))
+    rw c.or-repeat.ensures (along_repeat _ _ _ _ _ _ c.loop-k.invariant c.loop-k-test.true _ refl low c.if-seen-e-eq1.true m _ (omega arith))
 
 pub loop-k-preserved-else-once-e-eq1 : goal.loop-k-preserved-else-once-e-eq1
 loop-k-preserved-else-once-e-eq1 c =
