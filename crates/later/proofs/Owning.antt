@@ -16,9 +16,8 @@ use Rattle.words.proofs.Laws.{words_next, words_end}
 use Rattle.model.specs.Runs.{Marker, by_event}
 use Rattle.refusal.specs.declared.Marker.TheVariants.{ByEvent}
 use Rattle.colours.specs.Colours.{flagged}
-use Rattle.firsts.specs.declared.First.TheVariants.{Unset, Set}
-use Rattle.firsts.specs.declared.Slot.{Slot}
-use Rattle.firsts.specs.Firsts.{first_of, first_at}
+use Rattle.std.specs.Prelude.{None, Some}
+use Rattle.firsts.specs.Firsts.{Slot, first_of, first_at}
 use Rattle.later.specs.Own.{only_at, own_one, own_all}
 
 -- ---- the test
@@ -37,7 +36,7 @@ module _ (s us pre : List ℕ) (b : ℕ) where
 
 module _ (s us pre : List ℕ) (e : ℕ) where
   abbrev own : Slot
-  own = record { 0 = Set (ByEvent (record { 0 = e })) }
+  own = Some (ByEvent (record { 0 = e }))
 
   module _ (slots : List Slot) (b : ℕ) where
     pub own_set : only_at s us pre b ≡ true → set slots b own ≡ own_one s us pre e slots b
@@ -61,7 +60,7 @@ module _ (s us pre : List ℕ) (e : ℕ) where
     one_here h = go (only_at s us pre b)
       where
         go : (t : Bool) → first_at (cond t (set slots b own) slots) b ≡ cond t (some (by_event e)) (first_at slots b)
-        go true = ap (λ (x : Slot). first_of x.0) (get_or-set_same slots b own (record { 0 = Unset }) h)
+        go true = ap first_of (get_or-set_same slots b own None h)
         go false = refl
 
     one_there : (d : ℕ) → (d ≡ b → ⊥) → first_at (own_one s us pre e slots b) d ≡ first_at slots d
@@ -69,7 +68,7 @@ module _ (s us pre : List ℕ) (e : ℕ) where
     one_there d z = go (only_at s us pre b)
       where
         go : (t : Bool) → first_at (cond t (set slots b own) slots) d ≡ first_at slots d
-        go true = ap (λ (x : Slot). first_of x.0) (get_or-set_other slots b d own (record { 0 = Unset }) z)
+        go true = ap first_of (get_or-set_other slots b d own None z)
         go false = refl
 
   -- ---- a list

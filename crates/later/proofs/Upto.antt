@@ -24,8 +24,7 @@ use Rattle.tally.proofs.Events.{list_read, list_inside}
 use Rattle.repeats.specs.Repeats.{Used}
 use Rattle.repeats.proofs.Others.{user_if}
 use Rattle.repeats.proofs.Walk.{uses_at}
-use Rattle.firsts.specs.declared.Slot.{Slot}
-use Rattle.firsts.specs.Firsts.{Inside, first_at}
+use Rattle.firsts.specs.Firsts.{Slot, Inside, first_at}
 use Rattle.later.specs.Later.{own_or, Later}
 use Rattle.later.specs.Own.{only_at, own_all}
 use Rattle.later.proofs.Owning.{own_length, own_first}

@@ -5,8 +5,7 @@ use Rattle.lists.specs.Lists.{mem}
 use Rattle.model.specs.Net.{Net}
 use Rattle.model.specs.Runs.{Marker, by_event}
 use Rattle.model.specs.Unfolding.{users}
-use Rattle.firsts.specs.declared.Slot.{Slot}
-use Rattle.firsts.specs.Firsts.{first_at}
+use Rattle.firsts.specs.Firsts.{Slot, first_at}
 
 -- Of a condition with these users: its only user where that marks it, and else the marker that is given (02, No. 3).
 abbrev pub own_or : Net → ℕ → List ℕ → Option Marker → Option Marker

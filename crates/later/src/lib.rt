@@ -9,7 +9,7 @@ ghost use Rattle.firsts.specs.Firsts.{Inside};
 ghost use Rattle.later.specs.Later.{Later};
 ghost use Rattle.later.specs.Own.{only_at, own_all};
 
-use firsts::{First, Firsts, Slot};
+use firsts::Firsts;
 use refusal::{Marker, TableEvent};
 
 // Whether condition b is persistent and its only user is the event with these preconditions.
@@ -36,7 +36,7 @@ fn own_all<'a>(
     requires { Inside (words post.now) }
     ensures { result.slots ≡ own_all table.now users.now (words pre.now) e firsts.slots (words post.now) }
 {
-    let own = Slot(First::Set(Marker::ByEvent(TableEvent(e))));
+    let own = Some(Marker::ByEvent(TableEvent(e)));
     let mut next = firsts;
     let mut i: usize = 0;
     while 1 < post.len() - i {

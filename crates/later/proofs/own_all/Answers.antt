@@ -6,7 +6,7 @@ use mathlib.Core.List.{List, []}
 use lib.ListN.{drop}
 use Rattle.words.specs.Words.{words}
 use Rattle.tally.proofs.Lists.{inside_here, inside_later}
-use Rattle.firsts.specs.declared.Slot.{Slot}
+use Rattle.firsts.specs.Firsts.{Slot}
 use Rattle.later.specs.Own.{own_one, own_all}
 use Rattle.later.proofs.Owning.{own_set, own_kept, own_next, own_end}
 use Rattle.later.proofs.own_all.Goals as goal
