@@ -30,9 +30,7 @@ use Rattle.step.specs.Lent.{Lent}
 use Rattle.step.specs.Steps.{record_net, stepped}
 use Rattle.stopping.specs.Table.{step_of}
 use Rattle.stopping.specs.declared.Cause.TheVariants.{Unknown}
-use Rattle.unfolded_step.specs.declared.Step as declared
-use Rattle.unfolded_step.specs.declared.Step.TheVariants as answers
-use Rattle.unfolded_step.specs.Steps as unfolded
+use Rattle.stopping.specs.Unfolded as unfolded
 use Rattle.game.proofs.Found.{stopping_found, fire_found}
 use Rattle.played.proofs.Playing.{fired_marking}
 use Rattle.step.proofs.Bytes.{lent_bytes, lent_at}
@@ -134,7 +132,7 @@ module _ (s offsets ms us before begun w : List ℕ) (k : ℕ) (state seen place
   all = all_events s offsets ms before numbered
 
   -- a number of no unfolded event
-  pub stops_unknown : get_or before (length offsets) 0 ≤ j → unfolded.step_of (stopping (basic n) (unfolded_at n w k) j) ≡ answers.Stops Unknown
+  pub stops_unknown : get_or before (length offsets) 0 ≤ j → unfolded.step_of (stopping (basic n) (unfolded_at n w k) j) ≡ Err Unknown
   stops_unknown l = ap unfolded.step_of (past_last n before numbered.sizes j (omega (arith, ap (λ (x : ℕ). get_or before x 0) all)) (unfolded_at n w k))
 
   module _ (l : j < get_or before (length offsets) 0) (e : ℕ) (ps ks : List ℕ) (d : Coloured n j e ps ks) where
@@ -240,7 +238,7 @@ module _ (s offsets ms us before begun w : List ℕ) (k : ℕ) (state seen place
       };
     }
 
-    pub step_told : (r : declared.Step) (new noted : List ℕ) → r ≡ unfolded.step_of unfolded_told → new ≡ stepped told (bytes (length state) (fire (record_net s at) (marking state) 0)) state
+    pub step_told : (r : unfolded.Step) (new noted : List ℕ) → r ≡ unfolded.step_of unfolded_told → new ≡ stepped told (bytes (length state) (fire (record_net s at) (marking state) 0)) state
         → noted ≡ stepped told (set seen e 1) seen → Stepped n w k r new noted ps ks
     step_told r new noted t x y = go told refl t x y
       where

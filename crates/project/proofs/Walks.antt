@@ -27,8 +27,7 @@ use Rattle.table.specs.Decoded.{net_of}
 use Rattle.table.proofs.Decoded.{events_are_all}
 use Rattle.table.proofs.Sound.{tabled}
 use Rattle.table.specs.Links.{refusing}
-use Rattle.step.specs.declared.Step.TheVariants as answers
-use Rattle.step.specs.Steps as played
+use Rattle.stopping.specs.Table as played
 use Rattle.step.specs.Steps.{set_all, record_net, stepped}
 use Rattle.stopping.specs.Unfolded.{Cause}
 use Rattle.stopping.specs.Unfolded.{Step}
@@ -46,7 +45,7 @@ use Rattle.project.specs.Walked.{state_at, unfolded_at, Walked, Stepped, Fires, 
 pub fire_written : (s l : List ℕ) (at : ℕ) → Fires s at l → (f pre post : List ℕ) → f ≡ flags s → pre ≡ pre_part s at → post ≡ post_part s at
     → set_all [] 1 (words post) (set_all f 0 (words pre) l) ≡ bytes (length l) (fire (record_net s at) (marking l) 0)
 fire_written s l at h f pre post is_f is_pre is_post =
-    step_written s l at answers.Goes (sym (ap played.step_of h.goes)) refl h.lents f pre post is_f is_pre is_post
+    step_written s l at goes (sym (ap played.step_of h.goes)) refl h.lents f pre post is_f is_pre is_post
     ∙ ap (λ (o : Option Stop). stepped o (bytes (length l) (fire (record_net s at) (marking l) 0)) l) h.goes
 
 -- ---- the start

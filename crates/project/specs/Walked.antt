@@ -8,7 +8,7 @@ use Rattle.model.specs.Numbering.{size, condition_count, event_count}
 use Rattle.model.specs.Across.{of_unfolding, stuck, most_steps, most_unfolded, read_back}
 use Rattle.model.specs.Lent.{bytes, marking}
 use Rattle.refusal.specs.Answer.{Judged}
-use Rattle.std.specs.Prelude.{Ok}
+use Rattle.std.specs.Prelude.{Ok, Err}
 use Rattle.table.specs.Walk.{judge_of}
 use Rattle.table.specs.Decoded.{net_of}
 use Rattle.table.specs.Links.{refused_or}
@@ -16,8 +16,6 @@ use Rattle.layout.specs.Laid.{Sums, Counted, Marked}
 use Rattle.step.specs.Lent.{Lent}
 use Rattle.step.specs.Steps.{record_net}
 use Rattle.stopping.specs.Unfolded.{Step}
-use Rattle.std.specs.Prelude.{Err}
-use Rattle.stopping.specs.Causes.{goes}
 use Rattle.stopping.specs.Unfolded.{step_of}
 use Rattle.played.specs.Played.{Indexed}
 use Rattle.tally.specs.Having.{Tally}
@@ -77,7 +75,7 @@ pub record Coloured (n : Net) (j e : ℕ) (places kept : List ℕ) : Type 0 wher
 -- A step answers that it goes, and then the bytes are one step on, or with what stops it in the unfolded net (01, Refusal numbers; 02,
 -- No. 2).
 abbrev pub Stepped : Net → List ℕ → ℕ → Step → List ℕ → List ℕ → List ℕ → List ℕ → Type 0
-Stepped n w k goes state seen places kept = Walked n w (k + 1) state seen places kept
+Stepped n w k (Ok done) state seen places kept = Walked n w (k + 1) state seen places kept
 Stepped n w k (Err x) state seen places kept = step_of (stopping (basic n) (unfolded_at n w k) (get_or w k 0)) ≡ Err x
 
 -- An event can be fired on bytes: nothing stops the one whose record stands at an offset.

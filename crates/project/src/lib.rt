@@ -6,7 +6,7 @@ ghost use Rattle.model.specs.Net.{fire};
 ghost use Rattle.model.specs.Lent.{bytes, marking};
 ghost use Rattle.refusal.specs.Answer.{value_of, fitting};
 ghost use Rattle.table.specs.Decoded.{net_of};
-ghost use Rattle.step.specs.Steps as played;
+ghost use Rattle.stopping.specs.Table as played;
 ghost use Rattle.step.specs.Steps.{record_net, stepped};
 ghost use Rattle.stopping.specs.Unfolded.{step_of};
 ghost use Rattle.decided.specs.Decided.{unfolded_stop};
@@ -14,8 +14,8 @@ ghost use Rattle.decided.specs.Kept.{marker_at, Kept};
 ghost use Rattle.project.specs.Walked.{Numbered, Underway, Coloured, Stepped, Fires, stops_at, Trying, Tried, Replayed, Replayable, Reading, Read};
 ghost use Rattle.project.specs.Calls.{project_of, projected_of};
 
-use refusal::Refusal;
-use unfolded_step::{Cause, Step};
+use refusal::{Refusal, TableCondition, UnfoldedCondition};
+use stopping::Cause;
 
 // The event whose record stands at an offset, fired on the bytes of a marking.
 fn fire_at(table: &[u8], at: usize, state: &mut [u8])
@@ -63,13 +63,13 @@ fn step_event<'a>(
     seen: &mut [u8],
     places: &'a [u32],
     kept: &'a [u32],
-) -> step::Step
+) -> Result<(), Cause<TableCondition>>
     requires { Trying table.now users.now at e begun.now state.old seen.old places.now kept.now }
     ensures answer { result ≡ played.step_of (stops_at table.now e state.old seen.old places.now) }
     ensures after { state.new ≡ stepped (stops_at table.now e state.old seen.old places.now) (bytes (length state.old) (fire (record_net table.now at) (marking state.old) 0)) state.old }
     ensures noted { seen.new ≡ stepped (stops_at table.now e state.old seen.old places.now) (set seen.old e 1) seen.old }
 {
-    let answer = decided::decide(
+    decided::decide(
         table,
         at,
         e,
@@ -79,13 +79,10 @@ fn step_event<'a>(
         &seen[..],
         places,
         kept,
-    );
-    let step::Step::Goes = answer else {
-        return answer;
-    };
+    )?;
     fire_at(table, at, state);
     seen[e] = 1;
-    answer
+    Ok(())
 }
 
 // The same for the event whose colour is laid out, with what stops it told by unfolded conditions.
@@ -100,7 +97,7 @@ fn step_coloured<'a>(
     seen: &mut [u8],
     places: &'a [u32],
     kept: &'a [u32],
-) -> Step
+) -> Result<(), Cause<UnfoldedCondition>>
     requires { Tried table.now offsets.now markers.now users.now begun.now e state.old seen.old places.now kept.now }
     ensures answer { result ≡ step_of (unfolded_stop (net_of table.now) (marker_at (net_of table.now) places.now) e (stops_at table.now e state.old seen.old places.now)) }
     ensures after { state.new ≡ stepped (stops_at table.now e state.old seen.old places.now) (bytes (length state.old) (fire (record_net table.now (get_or offsets.now e 0)) (marking state.old) 0)) state.old }
@@ -125,14 +122,14 @@ fn step_unfolded<'a>(
     seen: &mut [u8],
     places: &mut [u32],
     kept: &mut [u32],
-) -> Step
+) -> Result<(), Cause<UnfoldedCondition>>
     requires underway { Underway table.now offsets.now markers.now users.now before.now begun.now lifted.now k state.old seen.old places.old kept.old }
     requires k_in_bounds { k < length lifted.now }
     ensures { Stepped (net_of table.now) lifted.now k result state.new seen.new places.new kept.new }
 {
     let j = lifted[k] as u32;
     if before[offsets.len()] <= j {
-        return Step::Stops(Cause::Unknown);
+        return Err(Cause::Unknown);
     }
     let e = lay_colour(table, offsets, markers, before, j, places, kept);
     step_coloured(
@@ -168,11 +165,10 @@ fn play<'a>(
 {
     let mut k: usize = 0;
     while k < lifted.len() {
-        let step = step_unfolded(
+        if let Err(cause) = step_unfolded(
             table, offsets, markers, users, before, begun, lifted, k, state, seen, places, kept,
-        );
-        if let Step::Stops(cause) = step {
-            return unfolded_step::stopped_at(cause, k);
+        ) {
+            return Err(cause.at(k));
         }
         k = k + 1;
     }

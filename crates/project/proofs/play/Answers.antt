@@ -1,5 +1,7 @@
 -- `project::play` meets its contract.
 use native.Mathlib.Omega.{arith}
+use mathlib.Core.Path.{ap}
+use Rattle.std.specs.Prelude.{Err}
 use Rattle.project.proofs.Walks.{walk_stops, walk_ends, walk_on}
 use Rattle.project.proofs.play.Goals as goal
 
@@ -7,24 +9,24 @@ pub loop-k-init : goal.loop-k-init
 loop-k-init c =
     c.requires.walked
 
-pub step_unfolded-step-requires : goal.step_unfolded-step-requires
-step_unfolded-step-requires c =
+pub step_unfolded-requires : goal.step_unfolded-requires
+step_unfolded-requires c =
     record {
       underway = record { equipped = c.requires.equipped; walked = c.loop-k.invariant };
       k_in_bounds = c.loop-k-test.true;
     }
 
-pub shape_of-places-in-Stops : goal.shape_of-places-in-Stops
-shape_of-places-in-Stops c =
+pub shape_of-places-in-Err : goal.shape_of-places-in-Err
+shape_of-places-in-Err c =
     omega (arith, c.loop-k.invariant.held.size, c.requires.walked.held.size)
 
-pub shape_of-kept-in-Stops : goal.shape_of-kept-in-Stops
-shape_of-kept-in-Stops c =
+pub shape_of-kept-in-Err : goal.shape_of-kept-in-Err
+shape_of-kept-in-Err c =
     omega (arith, c.loop-k.invariant.held.room, c.requires.walked.held.room)
 
-pub returns-in-Stops : goal.returns-in-Stops
-returns-in-Stops c =
-    walk_stops _ _ _ _ _ _ _ c.loop-k.invariant c.loop-k-test.true _ _ _ _ _ c.step_unfolded-step.ensures _ c.in-Stops.is _ c.stopped_at.ensures _ _
+pub returns-in-Err : goal.returns-in-Err
+returns-in-Err c =
+    walk_stops _ _ _ _ _ _ _ c.loop-k.invariant c.loop-k-test.true _ _ _ _ _ c.step_unfolded.ensures _ c.in-Err.is _ (ap Err c.at.ensures) _ _
 
 pub overflow_add-k : goal.overflow_add-k
 overflow_add-k c =
@@ -32,7 +34,7 @@ overflow_add-k c =
 
 pub loop-k-preserved : goal.loop-k-preserved
 loop-k-preserved c =
-    walk_on _ _ _ _ _ _ _ _ c.step_unfolded-step.ensures c.in_default.is
+    walk_on _ _ _ _ _ _ _ _ c.step_unfolded.ensures c.in_default.is
 
 pub shape_of-state : goal.shape_of-state
 shape_of-state c =
