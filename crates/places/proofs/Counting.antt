@@ -30,8 +30,7 @@ use Rattle.tally.proofs.Tallies.{keep_more, keep_few}
 use Rattle.tally.proofs.Events.{within_limits, list_read, list_ascends, list_inside}
 use Rattle.layout.specs.Laid.{Low}
 use Rattle.unfolding.proofs.Places.{place_event, place_start}
-use Rattle.firsts.specs.declared.Slot.{Slot}
-use Rattle.firsts.specs.Firsts.{first_at}
+use Rattle.firsts.specs.Firsts.{Slot, first_at}
 use Rattle.places.specs.Places.{place_begun, place_more, placed_all, Begun, Marking, Placed}
 
 -- ---- one list of conditions

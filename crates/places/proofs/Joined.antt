@@ -28,8 +28,7 @@ use Rattle.unfolding.specs.Numbers.{Within, choices_of, all_mark}
 use Rattle.unfolding.proofs.Places.{some_marker}
 use Rattle.unfolding.proofs.Numbered.{marks_each, radix_below}
 use Rattle.unfolding.proofs.Owners.{before_few}
-use Rattle.firsts.specs.declared.Slot.{Slot}
-use Rattle.firsts.specs.Firsts.{first_at}
+use Rattle.firsts.specs.Firsts.{Slot, first_at}
 use Rattle.places.specs.Places.{Marking, Placed}
 use Rattle.places.specs.Numbers.{joined, joined_all, Joining, Numbering, Numbered, Settled}
 

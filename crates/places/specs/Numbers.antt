@@ -9,8 +9,7 @@ use Rattle.table.specs.Decoded.{net_of}
 use Rattle.colours.specs.Colours.{flagged}
 use Rattle.layout.specs.Laid.{Low, Marked, Sums}
 use Rattle.unfolding.specs.Numbers.{Within}
-use Rattle.firsts.specs.declared.Slot.{Slot}
-use Rattle.firsts.specs.Firsts.{first_at}
+use Rattle.firsts.specs.Firsts.{Slot, first_at}
 
 -- A number with the place of condition b's marker behind it, where b is persistent (01, Unfolding).
 abbrev pub joined : List ℕ → List ℕ → List ℕ → ℕ → ℕ → ℕ

@@ -7,8 +7,7 @@ use Rattle.model.specs.Runs.{Marker, at_start, by_event}
 use Rattle.model.specs.Unfolding.{same_marker, markers}
 use Rattle.model.specs.Across.{or_start}
 use Rattle.layout.specs.Laid.{Low}
-use Rattle.firsts.specs.declared.Slot.{Slot}
-use Rattle.firsts.specs.Firsts.{first_at}
+use Rattle.firsts.specs.Firsts.{Slot, first_at}
 
 -- Where the count of a place begins: the start stands before every event (01, Unfolding).
 abbrev pub place_begun : Option Marker → ℕ

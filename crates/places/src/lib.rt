@@ -13,36 +13,27 @@ ghost use Rattle.firsts.specs.Firsts.{first_of};
 ghost use Rattle.places.specs.Places.{place_begun, place_more, placed_all, Begun, Marking, Placed};
 ghost use Rattle.places.specs.Numbers.{joined, joined_all, Joining, Numbering, Numbered, Settled};
 
-use firsts::{First, Firsts, Slot};
+use firsts::Firsts;
 use refusal::Marker;
 
 // Where the count of a first marker's place begins: the start stands at 0, and before every event.
-fn place_begun(slot: Slot) -> u32
-    ensures { result ≡ place_begun (first_of slot.0) }
+fn place_begun(first: Option<Marker>) -> u32
+    ensures { result ≡ place_begun (first_of first) }
 {
-    let first = slot.0;
-    let First::Set(m) = first else {
-        return 0;
-    };
-    let Marker::ByEvent(_) = m else {
-        return 0;
-    };
-    1
+    match first {
+        Some(Marker::ByEvent(_)) => 1,
+        _ => 0,
+    }
 }
 
 // One more where event e stands before a first marker, which is then a later event.
-fn place_more(slot: Slot, e: usize) -> u32
-    ensures { result ≡ place_more (first_of slot.0) e }
+fn place_more(first: Option<Marker>, e: usize) -> u32
+    ensures { result ≡ place_more (first_of first) e }
 {
-    let first = slot.0;
-    let First::Set(m) = first else {
-        return 0;
-    };
-    let Marker::ByEvent(x) = m else {
-        return 0;
-    };
-    let event = x.0;
-    if e < (event as usize) { 1 } else { 0 }
+    match first {
+        Some(Marker::ByEvent(event)) if e < event.0 as usize => 1,
+        _ => 0,
+    }
 }
 
 // Each count begun.
@@ -52,8 +43,7 @@ fn begin_places(firsts: Firsts, places: &mut [u32])
 {
     let mut b: usize = 0;
     while b < 256 {
-        let slot = firsts.slots[b];
-        places[b] = place_begun(slot);
+        places[b] = place_begun(firsts.slots[b]);
         b = b + 1;
     }
 }
@@ -67,8 +57,7 @@ fn count_event(firsts: Firsts, e: usize, list: &[u8], places: &mut [u32])
     let mut i: usize = 0;
     while 1 < list.len() - i {
         let b = words::word(list, i) as usize;
-        let slot = firsts.slots[b];
-        places[b] = places[b] + place_more(slot, e);
+        places[b] = places[b] + place_more(firsts.slots[b], e);
         i = i + 2;
     }
 }
