@@ -15,7 +15,7 @@ use Rattle.model.proofs.Limits.{unfolds_exactly, within_exactly}
 use Rattle.model.proofs.Demands.{lift_project, lift_lifts, lift_length, lift_most}
 use Rattle.refusal.specs.declared.Refusal.{Refusal}
 use Rattle.refusal.specs.Answer.{Judged}
-use Rattle.std.specs.Prelude.{Ok, Err}
+use Rattle.std.specs.Prelude.{Result, Ok, Err}
 use Rattle.refusal.specs.Answer.{condition_of, and_then}
 use Rattle.refusal.proofs.Chain.{fitting_room}
 use Rattle.table.specs.Walk.{judge_of}
@@ -32,7 +32,7 @@ use Rattle.listing.specs.Whole.{lines_of, lifted_lines, judged_lines, listing_of
 use Rattle.opening.specs.declared.Opened.{Opened}
 use Rattle.lines.specs.declared.Place.TheVariants.{Start}
 use Rattle.lines.specs.Places.{rest_of}
-use Rattle.opening.specs.Opening.{lifted_run, start_bytes, end_bytes, reach_of, open_of, Opens}
+use Rattle.opening.specs.Opening.{lifted_run, start_bytes, end_bytes, reach_of, open_of, steps_in, Opens}
 use Rattle.opening.proofs.Opening.{files_fine}
 use Rattle.lines.proofs.Whole.{start_text}
 
@@ -128,14 +128,14 @@ module _ (s r : List ℕ) where
 
 -- ---- over the contracts of opening and of writing
 
-module _ (s r : List ℕ) (o : Opened) (steps lifted offsets marking end : List ℕ) (opens : Opens s r o steps lifted offsets marking end) where
+module _ (s r : List ℕ) (answer : Result Opened Refusal) (steps lifted offsets marking end : List ℕ) (opens : Opens s r answer steps lifted offsets marking end) where
   -- Once the files are opened, what lent memory holds is written to the listing.
-  pub opened_listing : (count : ℕ) → o.answer ≡ Ok count
-      → rest_of (net_of s) (take count steps) (take count lifted) (take o.unfolded end) (take o.conditions marking) Start ≡ listing_of s r
-  opened_listing count e =
-      let h = opens.holds count e in
-      rw (h.run, h.lifts, h.ended, h.begun) (listing_written s r count (sym opens.told ∙ e))
+  pub opened_listing : (o : Opened) → answer ≡ Ok o
+      → rest_of (net_of s) (take o.steps steps) (take o.steps lifted) (take o.unfolded end) (take o.conditions marking) Start ≡ listing_of s r
+  opened_listing o e =
+      let h = opens.holds o e in
+      rw (h.run, h.lifts, h.ended, h.begun) (listing_written s r o.steps (sym opens.told ∙ ap steps_in e))
 
   -- A refusal's line is the listing.
-  pub opened_refused : (x : Refusal) → o.answer ≡ Err x → refused_line x.number x.place (condition_of x.by) ≡ listing_of s r
-  opened_refused x e = listing_refused s r x (sym opens.told ∙ e)
+  pub opened_refused : (x : Refusal) → answer ≡ Err x → refused_line x.number x.place (condition_of x.by) ≡ listing_of s r
+  opened_refused x e = listing_refused s r x (sym opens.told ∙ ap steps_in e)

@@ -41,7 +41,7 @@ fn list<'a>(rt: &impl Print, net: &'a [u8], run: &'a [u8]) -> io::Result<()> {
     let mut offsets = [0usize; 256];
     let mut marking = [0u8; 256];
     let mut end = [0u8; 65535];
-    let opened = opening::open_files(
+    let files = opening::open_files(
         net,
         run,
         &mut steps,
@@ -50,21 +50,19 @@ fn list<'a>(rt: &impl Print, net: &'a [u8], run: &'a [u8]) -> io::Result<()> {
         &mut marking,
         &mut end,
     );
-    let answer = opened.answer;
-    let Ok(count) = answer else {
-        return files::refuse(rt, answer);
+    let opened = match files {
+        Ok(opened) => opened,
+        Err(refusal) => return files::refuse(rt, Err(refusal)),
     };
-    let unfolded = opened.unfolded;
-    let conditions = opened.conditions;
     show(
         rt,
         net,
         opened.events,
         &offsets,
-        &steps[0..count],
-        &lifted[0..count],
-        &end[0..unfolded],
-        &mut marking[0..conditions],
+        &steps[0..opened.steps],
+        &lifted[0..opened.steps],
+        &end[0..opened.unfolded],
+        &mut marking[0..opened.conditions],
     )
 }
 

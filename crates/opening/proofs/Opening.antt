@@ -15,9 +15,9 @@ use Rattle.model.proofs.Lent.{length_bytes, bytes_at, bytes_are}
 use Rattle.model.proofs.Demands.{lift_lifts, lift_length}
 use Rattle.refusal.specs.declared.Refusal.{Refusal}
 use Rattle.refusal.specs.Answer.{Judged}
-use Rattle.std.specs.Prelude.{Ok, Err}
+use Rattle.std.specs.Prelude.{Result, Ok, Err}
 use Rattle.refusal.specs.Answer.{need, and_then, written}
-use Rattle.refusal.proofs.Chain.{passed_up, goes_on, never_both, need_fine, then_fine, written_front}
+use Rattle.refusal.proofs.Chain.{passed_up, goes_on, never_both, ok_is, need_fine, then_fine, written_front}
 use Rattle.records.specs.Records.{conditions}
 use Rattle.table.specs.Walk.{judge_of}
 use Rattle.table.specs.Decoded.{net_of}
@@ -33,7 +33,7 @@ use Rattle.lift.specs.Calls.{lift_of, lifted_of}
 use Rattle.ends.specs.Calls.{unfolded_replay_of, unfolded_replayed_of}
 use Rattle.listing.specs.Calls.{most_net_bytes, most_run_bytes, files_of}
 use Rattle.opening.specs.declared.Opened.{Opened}
-use Rattle.opening.specs.Opening.{lifted_run, start_bytes, end_bytes, reach_of, open_of, Reaches, SetsUp, Holds, Opens}
+use Rattle.opening.specs.Opening.{lifted_run, start_bytes, end_bytes, reach_of, open_of, Reaches, SetsUp, Holds, steps_in, Opens}
 
 -- ---- the files
 
@@ -161,9 +161,9 @@ begun_front s marking n c j e is =
 
 -- ---- all of it
 
-opens_refused : (s r : List ℕ) (o : Opened) (steps lifted offsets marking end : List ℕ) {x : Refusal} → o.answer ≡ open_of s r → o.answer ≡ Err x
-    → Opens s r o steps lifted offsets marking end
-opens_refused s r o steps lifted offsets marking end told e = record { told = told; holds = λ count f. never_both (sym f ∙ e) }
+opens_refused : (s r : List ℕ) (answer : Result Opened Refusal) (steps lifted offsets marking end : List ℕ) {x : Refusal} → Err x ≡ open_of s r → answer ≡ Err x
+    → Opens s r answer steps lifted offsets marking end
+opens_refused s r answer steps lifted offsets marking end told e = record { told = ap steps_in e ∙ told; holds = λ o f. never_both (sym f ∙ e) }
 
 module _ (s r old steps : List ℕ) (read : Judged) (many : length old ≡ most_steps) (told : read ≡ files_of s r (length old)) (left : steps ≡ written read (run_of r) old) where
   abbrev rest : ℕ → Judged
@@ -172,9 +172,10 @@ module _ (s r old steps : List ℕ) (read : Judged) (many : length old ≡ most_
   read_told : read ≡ files_of s r most_steps
   read_told = told ∙ ap (files_of s r) many
 
-  pub files_refused : {x : Refusal} → read ≡ Err x → (o : Opened) → o.answer ≡ read → (lifted offsets marking end : List ℕ) → Opens s r o steps lifted offsets marking end
+  pub files_refused : {x : Refusal} → read ≡ Err x → (answer : Result Opened Refusal) → answer ≡ Err x → (lifted offsets marking end : List ℕ)
+      → Opens s r answer steps lifted offsets marking end
   unfolding open_of
-  files_refused e o is lifted offsets marking end = opens_refused s r o steps lifted offsets marking end (is ∙ passed_up rest read_told e) (is ∙ e)
+  files_refused e answer is lifted offsets marking end = opens_refused s r answer steps lifted offsets marking end (sym e ∙ passed_up rest read_told e) is
 
   module _ (count : ℕ) (fine : read ≡ Ok count) where
     files : Read s r count
@@ -194,17 +195,18 @@ module _ (s r old steps : List ℕ) (read : Judged) (many : length old ≡ most_
       reach_run : Reaches s (run_of r) reached lifted end
       reach_run = subst (λ (x : List ℕ). Reaches s x reached lifted end) (run_front (count - 0) (omega arith)) reach
 
-      pub run_refused : {x : Refusal} → reached ≡ Err x → (o : Opened) → o.answer ≡ reached → (offsets marking : List ℕ) → Opens s r o steps lifted offsets marking end
-      run_refused e o is offsets marking =
-          opens_refused s r o steps lifted offsets marking end (is ∙ passed_up (λ _. Ok count) reach_run.told e ∙ sym goes) (is ∙ e)
+      pub run_refused : {x : Refusal} → reached ≡ Err x → (answer : Result Opened Refusal) → answer ≡ Err x → (offsets marking : List ℕ)
+          → Opens s r answer steps lifted offsets marking end
+      run_refused e answer is offsets marking =
+          opens_refused s r answer steps lifted offsets marking end (sym e ∙ passed_up (λ _. Ok count) reach_run.told e ∙ sym goes) is
 
       module _ (judged : Judged) (offsets marking : List ℕ) (set : SetsUp s judged offsets marking) where
         pub never_refused : {A : Type 0} {x : Refusal} → judged ≡ Err x → A
         never_refused e = never_both (sym files.judged ∙ sym set.told ∙ e)
 
-        pub opened : (o : Opened) → o.answer ≡ Ok count → reached ≡ Ok o.unfolded → judged ≡ Ok o.events → o.conditions ≡ conditions s
-            → Opens s r o steps lifted offsets marking end
-        opened o answered reaches sets are =
+        pub opened : (o : Opened) → o.steps ≡ count → reached ≡ Ok o.unfolded → judged ≡ Ok o.events → o.conditions ≡ conditions s
+            → Opens s r (Ok o) steps lifted offsets marking end
+        opened o counted reaches sets are =
             let j = sym set.told ∙ sets in
             let all : o.conditions ≡ (net_of s).conditions = are ∙ conditions_are_all s o.events j in
             let held : Holds s r count o.events o.conditions o.unfolded steps lifted offsets marking end
@@ -220,7 +222,8 @@ module _ (s r old steps : List ℕ) (read : Judged) (many : length old ≡ most_
               ended = reach_run.ended o.unfolded reaches;
             } in
             record {
-              told = answered ∙ sym (goes ∙ goes_on (λ _. Ok count) reach_run.told reaches);
+              told = ap Ok counted ∙ sym (goes ∙ goes_on (λ _. Ok count) reach_run.told reaches);
               holds = λ k f.
-                  subst (λ (x : ℕ). Holds s r x o.events o.conditions o.unfolded steps lifted offsets marking end) (same_fine count k o.answer answered f) held;
+                  subst (λ (x : Opened). Holds s r x.steps x.events x.conditions x.unfolded steps lifted offsets marking end) (ok_is f)
+                  (subst (λ (x : ℕ). Holds s r x o.events o.conditions o.unfolded steps lifted offsets marking end) (sym counted) held);
             }

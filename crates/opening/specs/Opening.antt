@@ -6,7 +6,8 @@ use Rattle.model.specs.Runs.{end}
 use Rattle.model.specs.Unfolding.{basic}
 use Rattle.model.specs.Across.{lift, most_steps, most_unfolded}
 use Rattle.refusal.specs.Answer.{Judged}
-use Rattle.std.specs.Prelude.{Ok}
+use Rattle.std.specs.Prelude.{Result, Ok, Err}
+use Rattle.refusal.specs.declared.Refusal.{Refusal}
 use Rattle.refusal.specs.Answer.{and_then}
 use Rattle.table.specs.Walk.{judge_of}
 use Rattle.table.specs.Decoded.{net_of}
@@ -72,7 +73,12 @@ pub record Holds (s r : List ℕ) (count events conditions unfolded : ℕ) (step
   pub few : unfolded ≤ most_unfolded
   pub ended : take unfolded end ≡ end_bytes s (run_of r)
 
+-- The number of steps that two files are opened to, or the refusal.
+abbrev pub steps_in : Result Opened Refusal → Judged
+steps_in (Ok o) = Ok o.steps
+steps_in (Err refusal) = Err refusal
+
 -- The answer to two files, and what lent memory holds where they are not refused.
-pub record Opens (s r : List ℕ) (o : Opened) (steps lifted offsets marking end : List ℕ) : Type 0 where
-  pub told : o.answer ≡ open_of s r
-  pub holds : (count : ℕ) → o.answer ≡ Ok count → Holds s r count o.events o.conditions o.unfolded steps lifted offsets marking end
+pub record Opens (s r : List ℕ) (answer : Result Opened Refusal) (steps lifted offsets marking end : List ℕ) : Type 0 where
+  pub told : steps_in answer ≡ open_of s r
+  pub holds : (o : Opened) → answer ≡ Ok o → Holds s r o.steps o.events o.conditions o.unfolded steps lifted offsets marking end

@@ -8,10 +8,10 @@ ghost use Rattle.opening.specs.Opening.{Empty, Reaches, SetsUp, Opens};
 
 use refusal::Refusal;
 
-// What the two files are opened to: the number of steps or the refusal, then how many events, conditions and unfolded conditions.
+// What the two files are opened to: how many steps, events, conditions and unfolded conditions there are.
 #[derive(Clone, Copy)]
 pub struct Opened {
-    pub answer: Result<usize, Refusal>,
+    pub steps: usize,
     pub events: usize,
     pub conditions: usize,
     pub unfolded: usize,
@@ -37,18 +37,6 @@ fn set_up(table: &[u8], offsets: &mut [usize], marking: &mut [u8]) -> Result<usi
     Ok(events)
 }
 
-// A refusal, with nothing opened.
-fn refused(answer: Result<usize, Refusal>) -> Opened
-    ensures { result.answer ≡ answer }
-{
-    Opened {
-        answer,
-        events: 0,
-        conditions: 0,
-        unfolded: 0,
-    }
-}
-
 // The two files judged in order, the run lifted, the unfolded end reached, the index filled and the marking put to the start.
 pub fn open_files<'a>(
     net: &'a [u8],
@@ -58,27 +46,17 @@ pub fn open_files<'a>(
     offsets: &mut [usize],
     marking: &mut [u8],
     end: &mut [u8],
-) -> Opened
+) -> Result<Opened, Refusal>
     requires { Empty steps.old lifted.old offsets.old marking.old end.old }
     ensures { Opens net.now run.now result steps.new lifted.new offsets.new marking.new end.new }
 {
-    let read = listing::read_files(net, run, steps);
-    let Ok(count) = read else {
-        return refused(read);
-    };
-    let reached = reach_end(net, &steps[0..count], lifted, end);
-    let Ok(unfolded) = reached else {
-        return refused(reached);
-    };
-    let judged = set_up(net, offsets, marking);
-    let Ok(events) = judged else {
-        return refused(judged);
-    };
-    let conditions = records::conditions(net) as usize;
-    Opened {
-        answer: Ok(count),
+    let count = listing::read_files(net, run, steps)?;
+    let unfolded = reach_end(net, &steps[0..count], lifted, end)?;
+    let events = set_up(net, offsets, marking)?;
+    Ok(Opened {
+        steps: count,
         events,
-        conditions,
+        conditions: records::conditions(net) as usize,
         unfolded,
-    }
+    })
 }
