@@ -8,3 +8,4 @@ pub mod Products
 pub mod Stored
 pub mod Distinct
 pub mod Lowest
+pub mod Library

@@ -6,13 +6,13 @@ use native.Mathlib.Omega.{arith}
 use mathlib.Core.Path.{◌≡◌, refl, ◌∙◌}
 use mathlib.Core.List.{List, [], ◌∷◌}
 use mathlib.Core.Bool.{Bool, true, false, cond}
-use lib.ListN.{length, get_or, drop, length-drop, drop_of_length-le}
-use lib.Seq.{drop-cons}
+use lib.ListN.{length, get_or, take, drop, length-drop}
+use lib.Seq.{drop-cons, take_all}
 use lib.Dec.{T, leb, eqb, ltb, leb→le, le→leb, ltb→lt, lt→ltb}
 use borrow.Author.Tests.{lt-leb, le-leb, eq-eqb, ne_eqb, leb-true}
 use Rattle.lists.specs.Lists.{mem, all, keep, fits, ascending, ascending_from}
 use Rattle.lists.proofs.Bools.{iff, is_true, T_of, and_left, and_right, and_both}
-use Rattle.words.specs.Words.{word_at, words, bytes_of, bits, count_in}
+use Rattle.words.specs.Words.{word_at, words, bytes_of, count_in}
 
 -- the next number of what is left from i on
 pub words_next : (s : List ℕ) (i : ℕ) → 1 < length s - i → words (drop i s) ≡ word_at s i ∷ words (drop (i + 2) s)
@@ -23,8 +23,18 @@ words_next s i h =
     let two : i + 2 ≡ suc (suc i) = omega arith in
     rw (two, add-one, drop-cons s i 0 a, drop-cons s (suc i) 0 b)
 
+-- the first number, and those of the bytes after it
+pub words_first : (s : List ℕ) → 2 ≤ length s → words s ≡ (get_or s 0 0 + get_or s 1 0 * 256) ∷ words (take (length s - 2) (drop 2 s))
+unfolding words
+words_first [] h = absurd (omega arith)
+words_first (a ∷ []) h = absurd (omega arith)
+words_first (a ∷ b ∷ r) h =
+    let whole : take (suc (suc (length r)) - 2) r ≡ r = take_all _ r (omega arith) in
+    let value : a + 256 * b ≡ a + b * 256 = omega arith in
+    rw (whole, value)
+
 -- none are left
-words_none : (l : List ℕ) → length l ≤ 1 → words l ≡ []
+pub words_none : (l : List ℕ) → length l ≤ 1 → words l ≡ []
 unfolding words
 words_none [] h = refl
 words_none (a ∷ []) h = refl
@@ -51,22 +61,19 @@ unfoldable pub rises : ℕ → ℕ → List ℕ → Bool
 rises n least [] = leb least n
 rises n least (w ∷ ws) = cond (leb least w) (rises n (w + 1) ws) false
 
--- `rises` at a number w that stands at i
-module _ (n least : ℕ) (s : List ℕ) (i w : ℕ) (h : 1 < length s - i) (e : w ≡ word_at s i) where
-  step : rises n least (words (drop i s)) ≡ rises n least (w ∷ words (drop (i + 2) s))
-  step = rw (words_next s i h, e)
-
-  pub rises_low : w < least → rises n least (words (drop i s)) ≡ false
+-- `rises` at what is left, of which w is the first number
+module _ (n least w : ℕ) (ws left : List ℕ) (first : left ≡ w ∷ ws) where
+  pub rises_low : w < least → rises n least left ≡ false
   unfolding rises
-  rises_low p = step ∙ simp (lt-leb least w p)
+  rises_low p = rw first (simp (lt-leb least w p))
 
-  pub rises_on : least ≤ w → rises n least (words (drop i s)) ≡ rises n (w + 1) (words (drop (i + 2) s))
+  pub rises_on : least ≤ w → rises n least left ≡ rises n (w + 1) ws
   unfolding rises
-  rises_on p = step ∙ simp (le-leb least w p)
+  rises_on p = rw first (simp (le-leb least w p))
 
-pub rises_end : (n least : ℕ) (s : List ℕ) (i : ℕ) → length s - i ≤ 1 → rises n least (words (drop i s)) ≡ leb least n
+pub rises_end : (n least : ℕ) (left : List ℕ) → left ≡ [] → rises n least left ≡ leb least n
 unfolding rises
-rises_end n least s i h = rw (words_end s i h)
+rises_end n least left none = rw none
 
 -- from the least number on, that is to ascend and to stay below n
 rises_parts : (n least : ℕ) (l : List ℕ) → T (rises n least l) → (least ≤ n) × T (ascending_from least l) × T (all (λ b. ltb b n) l)
@@ -101,33 +108,6 @@ unfolding fits
 rises_fits n l =
     iff (rises n 0 l) (fits n l) (λ t. let r = rises_parts n 0 l t in and_both (ascending l) (all (λ b. ltb b n) l) r.1 r.2)
     (λ t. parts_rise n 0 l (omega arith) (and_left (ascending l) (all (λ b. ltb b n) l) t) (and_right (ascending l) (all (λ b. ltb b n) l) t))
-
--- `bits` at a byte
-pub bits_bad : (s : List ℕ) (i : ℕ) → i < length s → 1 < get_or s i 0 → bits (drop i s) ≡ false
-unfolding bits
-bits_bad s i h p = rw (drop-cons s i 0 h, lt-leb _ _ p)
-
-pub bits_on : (s : List ℕ) (i : ℕ) → i < length s → get_or s i 0 ≤ 1 → bits (drop i s) ≡ bits (drop (i + 1) s)
-unfolding bits
-bits_on s i h p = rw (add-one, drop-cons s i 0 h, le-leb _ _ p)
-
-pub bits_end : (s : List ℕ) (i : ℕ) → length s ≤ i → bits (drop i s) ≡ true
-unfolding bits
-bits_end s i h = rw (drop_of_length-le s h)
-
--- `count_in` at a number w that stands at i, with the byte b that it names
-module _ (flags s : List ℕ) (i w b : ℕ) (h : 1 < length s - i) (e : w ≡ word_at s i) (f : b ≡ get_or flags w 0) where
-  pub count_in_one : b ≡ 1 → count_in flags (words (drop i s)) ≡ 1 + count_in flags (words (drop (i + 2) s))
-  unfolding count_in
-  count_in_one p = rw (words_next s i h, ← e, ← f, eq-eqb b 1 p) (omega arith)
-
-  pub count_in_none : (b ≡ 1 → ⊥) → count_in flags (words (drop i s)) ≡ count_in flags (words (drop (i + 2) s))
-  unfolding count_in
-  count_in_none p = rw (words_next s i h, ← e, ← f, ne_eqb b 1 p)
-
-pub count_in_end : (flags s : List ℕ) (i : ℕ) → length s - i ≤ 1 → count_in flags (words (drop i s)) ≡ 0
-unfolding count_in
-count_in_end flags s i h = rw (words_end s i h)
 
 -- the k-th number of a list of bytes, by its place
 pub words_at : (l : List ℕ) (k : ℕ) → 2 * k + 1 < length l → get_or (words l) k 0 ≡ word_at l (2 * k)

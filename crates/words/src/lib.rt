@@ -1,9 +1,14 @@
 // Numbers of two bytes in a slice of bytes, and the tests on a list of them; past the end all is 0, so that no caller has to ask first.
 #![tactic(auto)]
 
-ghost use Rattle.std.specs.Prelude.{◌≡◌, ◌+◌, ◌<◌, length, get_or};
+ghost use Rattle.std.specs.Prelude.{◌≡◌, ◌+◌, ◌<◌, ◌^◌, length, get_or};
 ghost use Rattle.lists.specs.Lists.{mem, fits};
 ghost use Rattle.words.specs.Words.{word_at, words, bits, count_in};
+ghost use Rattle.words.specs.Numbers.{numbers_left};
+
+pub mod iter;
+
+use iter::Numbers;
 
 // The byte at i, and 0 past the end.
 pub fn byte(s: &[u8], i: usize) -> u8
@@ -31,18 +36,19 @@ pub fn word_within(s: &[u8], i: usize) -> u16
     s[i] as u16 + 256 * (s[i + 1] as u16)
 }
 
+// The numbers in s, one after the other.
+pub fn numbers(s: &[u8]) -> Numbers<'_>
+    ensures left { numbers_left result ≡ words s.now }
+    ensures bound { length (numbers_left result) < 2 ^ 64 }
+{
+    Numbers { bytes: s }
+}
+
 // Whether a number is in s.
 pub fn has(s: &[u8], number: usize) -> bool
     ensures { result ≡ mem number (words s.now) }
 {
-    let mut i: usize = 0;
-    while 1 < s.len() - i {
-        if number == word_within(s, i) as usize {
-            return true;
-        }
-        i = i + 2;
-    }
-    false
+    numbers(s).any(|w| number == usize::from(w))
 }
 
 // Whether the numbers in s ascend, the last below n.
@@ -50,14 +56,12 @@ pub fn ascends(s: &[u8], n: usize) -> bool
     ensures { result ≡ fits n (words s.now) }
 {
     let mut least: usize = 0;
-    let mut i: usize = 0;
-    while 1 < s.len() - i {
-        let w = word_within(s, i) as usize;
+    for w in numbers(s) {
+        let w = usize::from(w);
         if w < least {
             return false;
         }
         least = w + 1;
-        i = i + 2;
     }
     least <= n
 }
@@ -66,28 +70,14 @@ pub fn ascends(s: &[u8], n: usize) -> bool
 pub fn all_bits(s: &[u8]) -> bool
     ensures { result ≡ bits s.now }
 {
-    let mut i: usize = 0;
-    while i < s.len() {
-        if 1 < s[i] {
-            return false;
-        }
-        i = i + 1;
-    }
-    true
+    s.iter().all(|b| *b <= 1)
 }
 
 // How many of the numbers in s have a byte 1 in flags.
 pub fn count_in<'a>(flags: &'a [u8], s: &'a [u8]) -> usize
     ensures { result ≡ count_in flags.now (words s.now) }
 {
-    let mut n: usize = 0;
-    let mut i: usize = 0;
-    while 1 < s.len() - i {
-        let w = word_within(s, i) as usize;
-        if byte(flags, w) == 1 {
-            n = n + 1;
-        }
-        i = i + 2;
-    }
-    n
+    numbers(s)
+        .filter(|w| byte(flags, usize::from(*w)) == 1)
+        .count()
 }

@@ -1,17 +1,17 @@
 -- `words::all_bits` meets its contract.
-use native.Mathlib.Omega.{arith}
-use mathlib.Core.Path.{◌∙◌, sym}
-use Rattle.words.proofs.Laws.{bits_bad, bits_on, bits_end}
+use borrow.Author.Tests.{tests}
+use lib.Dec.{leb}
+use mathlib.Core.Path.{sym, ◌∙◌}
+use Rattle.std.proofs.Common.{rules}
+use Rattle.std.proofs.lemmas.Iterator.{YieldsList-from_slice}
+use Rattle.std.proofs.lemmas.Iterator.Search.{all_from_yields_List}
+use Rattle.lists.proofs.Library.{all_is_all}
+use Rattle.words.specs.Words.{bits}
 use Rattle.words.proofs.all_bits.Goals as goal
 
-pub returns-then-s-i-gt1 : goal.returns-then-s-i-gt1
-returns-then-s-i-gt1 c =
-    sym (c.loop-i.invariant.1 ∙ bits_bad c.args.s.now c.loop-i.i (omega arith) c.if-s-i-gt1.true)
-
-pub loop-i-preserved : goal.loop-i-preserved
-loop-i-preserved c =
-    (omega arith, c.loop-i.invariant.1 ∙ bits_on c.args.s.now c.loop-i.i (omega arith) c.if-s-i-gt1.false)
-
 pub returns : goal.returns
+unfolding bits
 returns c =
-    sym (c.loop-i.invariant.1 ∙ bits_end c.args.s.now c.loop-i.i c.loop-i-test.false)
+    let bytes = YieldsList-from_slice c.args.s.now c.iter.ensures.rest in
+    all_from_yields_List (λ b. leb b 1) _ _ c.all.result c.all.ensures.ran bytes (λ x b q k. search (rules, tests))
+    ∙ sym (all_is_all (λ b. leb b 1) c.args.s.now)

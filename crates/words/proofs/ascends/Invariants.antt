@@ -1,13 +1,9 @@
--- What each turn of a loop in `words::ascends` keeps, and what falls.
-use Rattle.words.specs.Words.{words}
-use Rattle.words.proofs.Laws.{rises}
-use Prim.Native.Nat.{◌-◌, ◌≤◌}
+-- The test on all numbers is the test on those that are left.
 use mathlib.Core.Path.{◌≡◌}
-use lib.ListN.{length, drop}
+use Rattle.words.specs.Words.{words}
+use Rattle.words.specs.Numbers.{numbers_left}
+use Rattle.words.proofs.Laws.{rises}
 use Rattle.words.proofs.ascends.Given as goal
 
-abbrev pub invariant-loop-i : goal.invariant-loop-i
-invariant-loop-i l = (l.i ≤ length l.s) × (rises l.n 0 (words l.s) ≡ rises l.n l.least (words (drop l.i l.s)))
-
-abbrev pub decreases-loop-i : goal.decreases-loop-i
-decreases-loop-i l = length l.s - l.i
+abbrev pub invariant-loop-w : goal.invariant-loop-w
+invariant-loop-w l = rises l.n 0 (words l.s) ≡ rises l.n l.least (numbers_left l.w-iterator)

@@ -1,19 +1,21 @@
 -- `words::count_in` meets its contract.
-use Rattle.std.specs.Prelude.{◌≡◌}
-use Rattle.words.proofs.Laws.{count_in_one, count_in_none, count_in_end}
-use native.Mathlib.Omega.{arith}
+use borrow.Author.Tests.{tests}
+use Prim.Native.Nat.{ℕ}
+use lib.Dec.{eqb}
+use lib.ListN.{length, get_or}
+use mathlib.Core.Path.{sym, ap, ◌∙◌}
+use Rattle.std.proofs.Common.{rules}
+use Rattle.std.proofs.lemmas.Iterator.Consumers.{YieldsList-from_first, YieldsList-from_filter, YieldsList-at, count_from_yields_List}
+use Rattle.lists.proofs.Library.{keep_is_filter}
+use Rattle.words.specs.Words.{words, count_in}
+use Rattle.words.specs.Numbers.{numbers_left}
 use Rattle.words.proofs.count_in.Goals as goal
 
-pub loop-i-preserved : goal.loop-i-preserved
-loop-i-preserved c =
-    let flags = c.args.flags.now in
-    let s = c.args.s.now in
-    let w = c.word_within-w in
-    let b = c.byte in
-    let one = λ (p : b.result ≡ 1). count_in_one flags s c.loop-i.i w.result b.result (omega arith) w.ensures b.ensures p in
-    let none = λ (p : b.result ≡ 1 → ⊥). count_in_none flags s c.loop-i.i w.result b.result (omega arith) w.ensures b.ensures p in
-    grind (arith, one, none)
-
 pub returns : goal.returns
+unfolding count_in
 returns c =
-    omega (arith, c.loop-i.invariant.2, count_in_end c.args.flags.now c.args.s.now c.loop-i.i c.loop-i-test.false)
+    let flagged = λ (w : ℕ). eqb (get_or c.args.flags.now w 0) 1 in
+    let numbers = YieldsList-at c.filter.ensures.source (YieldsList-from_first (λ x. x) numbers_left (words c.args.s.now) c.numbers.ensures.left) in
+    count_from_yields_List c.filter.result c.count.result c.count.ensures.ran
+    (YieldsList-from_filter _ flagged numbers c.filter.ensures.closure (λ x r q k. search (rules, tests)))
+    ∙ ap length (sym (keep_is_filter flagged (words c.args.s.now)))

@@ -1,17 +1,17 @@
 -- `words::has` meets its contract.
-use native.Mathlib.Omega.{arith}
-use mathlib.Core.Path.{◌∙◌, sym}
-use Rattle.words.proofs.Laws.{has_here, has_later, has_none}
+use borrow.Author.Tests.{tests}
+use lib.Dec.{eqb}
+use mathlib.Core.Path.{sym, ◌∙◌}
+use Rattle.std.proofs.Common.{rules}
+use Rattle.std.proofs.lemmas.Iterator.Consumers.{YieldsList-from_first}
+use Rattle.std.proofs.lemmas.Iterator.Search.{any_from_yields_List}
+use Rattle.lists.proofs.Library.{mem_is_any}
+use Rattle.words.specs.Words.{words}
+use Rattle.words.specs.Numbers.{numbers_left}
 use Rattle.words.proofs.has.Goals as goal
-
-pub returns-then-number-word_within : goal.returns-then-number-word_within
-returns-then-number-word_within c =
-    sym (c.loop-i.invariant.1 ∙ has_here c.args.number c.args.s.now c.loop-i.i (omega arith) (c.if-number-word_within.true ∙ c.word_within.ensures))
-
-pub loop-i-preserved : goal.loop-i-preserved
-loop-i-preserved c =
-    (omega arith, c.loop-i.invariant.1 ∙ has_later c.args.number c.args.s.now c.loop-i.i (omega arith) (λ e. c.if-number-word_within.false (e ∙ sym c.word_within.ensures)))
 
 pub returns : goal.returns
 returns c =
-    sym (c.loop-i.invariant.1 ∙ has_none c.args.number c.args.s.now c.loop-i.i c.loop-i-test.false)
+    let numbers = YieldsList-from_first (λ x. x) numbers_left (words c.args.s.now) c.numbers.ensures.left in
+    any_from_yields_List (λ w. eqb c.args.number w) c.any.new.self _ c.any.result c.any.ensures.ran numbers (λ x b q k. search (rules, tests))
+    ∙ sym (mem_is_any c.args.number (words c.args.s.now))
