@@ -3,8 +3,8 @@ use Prim.Native.Nat.{ℕ, suc, ◌+◌, ◌≤◌, ◌<◌}
 use native.Mathlib.Numerals.{add-one}
 use native.Mathlib.Omega.{arith}
 use mathlib.Core.Path.{◌≡◌, sym, ap, ◌∙◌, subst}
-use mathlib.Core.List.{List, ◌++◌}
-use lib.ListN.{length, get_or, take, drop, set, length-set}
+use mathlib.Core.List.{List, ◌++◌, append-nil}
+use lib.ListN.{length, get_or, take, drop, set, length-set, drop_of_length-le}
 use lib.Seq.{paste, paste-suc, take_all}
 use Rattle.model.specs.Net.{Marking}
 use Rattle.model.specs.Lent.{bit, bytes}
@@ -41,6 +41,7 @@ module _ (m : Marking) (c : ℕ) (out₀ out : List ℕ) (i : ℕ) (g : Copied (
       subst (λ (y : ℕ). Copied (bytes c m) c out₀ (set out i y) (i + 1)) (bytes_at c m i h ∙ sym e)
       (copy_on (bytes c m) c out₀ out i g h (omega (arith, length_bytes c m)) q)
 
-  pub spread_end : c ≤ i → out ≡ bytes c m ++ drop c out₀
-  spread_end h =
-      copy_end (bytes c m) c out₀ out i g h ∙ ap (λ (l : List ℕ). l ++ drop c out₀) (take_all c (bytes c m) (omega (arith, length_bytes c m)))
+  pub spread_end : c ≤ i → length out₀ ≤ c → out ≡ bytes c m
+  spread_end h few =
+      let whole = take_all c (bytes c m) (omega (arith, length_bytes c m)) in
+      copy_end (bytes c m) c out₀ out i g h ∙ rw (whole, drop_of_length-le out₀ few, append-nil)

@@ -5,14 +5,13 @@ use native.Mathlib.Omega.{arith}
 use mathlib.Core.Path.{◌≡◌, refl, sym, ap, ap₂, ◌∙◌, fun_ext}
 use mathlib.Core.Bool.{Bool, true, false, not, ◌&&◌, ◌||◌, and-false, or-true, or-false}
 use mathlib.Core.List.{List, [], ◌∷◌}
-use lib.Dec.{eqb, ltb}
-use lib.ListN.{length, get_or, set, drop, length-set, get_or-eq_default}
-use lib.Seq.{get_or-set_same, get_or-set_other}
+use lib.Dec.{eqb, leb, ltb}
+use lib.ListN.{length, get_or, set, take, drop, length-set, length-drop, get_or-eq_default, drop_of_length-le}
+use lib.Seq.{get_or-set_same, get_or-set_other, get_or-drop, take_all, drop-length}
+use Rattle.std.proofs.lemmas.List.{get_or-take, take_min}
 use lib.Bits.{bit_and, bit_or, bit_xor}
-use borrow.Author.Tests.{eqb-true, eqb-false, eq-eqb, ne_eqb, lt-ltb, le-ltb, ltb-true, ltb-false}
+use borrow.Author.Tests.{eqb-true, eqb-false, leb-true, leb-false, eq-eqb, ne_eqb, lt-ltb, le-ltb, ltb-true, ltb-false}
 use Rattle.lists.specs.Lists.{mem}
-use Rattle.words.specs.Words.{word_at, words}
-use Rattle.words.proofs.Laws.{words_next, words_end}
 use Rattle.model.specs.Net.{Marking}
 use Rattle.model.specs.Lent.{marking}
 use Rattle.model.proofs.Lent.{Tidy, tidy_marking}
@@ -131,11 +130,10 @@ held_more ws b h c = go (eqb (c / 64) (b / 64)) refl
 
 -- ---- the conditions of a list
 
--- words, and what is left of a list from i on, are all of the list
-pub record Collected (list : List ℕ) (i : ℕ) (ws : List ℕ) : Type 0 where
-  pub upto : i ≤ length list
+-- words, and the conditions that are left of a list, are all of the list
+pub record Collected (list left : List ℕ) (ws : List ℕ) : Type 0 where
   pub four : length ws ≡ 4
-  pub all : (b : ℕ) → (held_in ws b || tabled (λ c. mem c (words (drop i list))) b) ≡ tabled (λ c. mem c (words list)) b
+  pub all : (b : ℕ) → (held_in ws b || tabled (λ c. mem c left) b) ≡ tabled (λ c. mem c list) b
 
 -- words of 0 tell of no condition
 pub held_none : (b : ℕ) → held_in (0 ∷ 0 ∷ 0 ∷ 0 ∷ []) b ≡ false
@@ -152,38 +150,31 @@ held_none b = go (b / 64) (b % 64)
     go (suc (suc (suc zero))) j = nothing j
     go (suc (suc (suc (suc p)))) j = past (0 ∷ 0 ∷ 0 ∷ 0 ∷ []) (suc (suc (suc (suc p)))) j (omega arith)
 
-pub collect_none : (list : List ℕ) → Collected list 0 (0 ∷ 0 ∷ 0 ∷ 0 ∷ [])
-collect_none list = record {
-  upto = omega arith;
+pub collect_none : (list left : List ℕ) → left ≡ list → Collected list left (0 ∷ 0 ∷ 0 ∷ 0 ∷ [])
+collect_none list left whole = record {
   four = refl;
-  all = λ b. ap (λ (t : Bool). t || tabled (λ c. mem c (words list)) b) (held_none b);
+  all = λ b. rw whole (ap (λ (t : Bool). t || tabled (λ c. mem c list) b) (held_none b));
 }
 
-pub collect_end : (list : List ℕ) (i : ℕ) (ws : List ℕ) → Collected list i ws → length list - i ≤ 1 → held_in ws ≡ tabled (λ b. mem b (words list))
-collect_end list i ws g h = fun_ext (λ b. sym (rw (words_end list i h) (go (held_in ws b) (ltb b 256))) ∙ g.all b)
+pub collect_end : (list left ws : List ℕ) → left ≡ [] → Collected list left ws → held_in ws ≡ tabled (λ b. mem b list)
+collect_end list left ws none g = fun_ext (λ b. sym (rw none (go (held_in ws b) (ltb b 256))) ∙ g.all b)
   where
     go : (t s : Bool) → (t || s && false) ≡ t
     go true s = refl
     go false true = refl
     go false false = refl
 
--- a condition x that stands at i
-module _ (list : List ℕ) (i x : ℕ) (h : 1 < length list - i) (e : x ≡ word_at list i) (ws : List ℕ) (g : Collected list i ws) where
-  next : words (drop i list) ≡ x ∷ words (drop (i + 2) list)
-  next = words_next list i h ∙ rw e
-
-  parts : (b : ℕ) → (held_in ws b || ltb b 256 && (eqb b x || mem b (words (drop (i + 2) list)))) ≡ tabled (λ c. mem c (words list)) b
+-- the first condition x that is left
+module _ (list left rest : List ℕ) (x : ℕ) (next : left ≡ x ∷ rest) (ws : List ℕ) (g : Collected list left ws) where
+  parts : (b : ℕ) → (held_in ws b || ltb b 256 && (eqb b x || mem b rest)) ≡ tabled (λ c. mem c list) b
   parts b = ap (λ (l : List ℕ). held_in ws b || ltb b 256 && mem b l) (sym next) ∙ g.all b
 
-  pub collect_more : x / 64 < 4 → (new : List ℕ) → new ≡ set ws (x / 64) (bit_or (get_or ws (x / 64) 0) ((1 * 2 ^ (x % 64)) % 2 ^ 64)) → Collected list (i + 2) new
-  collect_more p new is = record {
-    upto = omega arith;
-    four = ap length is ∙ length-set ws (x / 64) (bit_or (get_or ws (x / 64) 0) ((1 * 2 ^ (x % 64)) % 2 ^ 64)) ∙ g.four;
+  pub collect_more : x / 64 < 4 → Collected list rest (set ws (x / 64) (bit_or (get_or ws (x / 64) 0) ((1 * 2 ^ (x % 64)) % 2 ^ 64)))
+  collect_more p = record {
+    four = length-set ws (x / 64) (bit_or (get_or ws (x / 64) 0) ((1 * 2 ^ (x % 64)) % 2 ^ 64)) ∙ g.four;
     all = λ b.
-        ap (λ (l : List ℕ). held_in l b || tabled (λ c. mem c (words (drop (i + 2) list))) b)
-        (is ∙ ap (λ (y : ℕ). set ws (x / 64) (bit_or (get_or ws (x / 64) 0) y)) (shifted (x % 64) (omega arith)))
-        ∙ ap (λ (t : Bool). t || tabled (λ c. mem c (words (drop (i + 2) list))) b) (held_more ws x (rw g.four p) b) ∙ go b (eqb b x) refl
-        ∙ parts b;
+        ap (λ (y : ℕ). held_in (set ws (x / 64) (bit_or (get_or ws (x / 64) 0) y)) b || tabled (λ c. mem c rest) b) (shifted (x % 64) (omega arith))
+        ∙ ap (λ (t : Bool). t || tabled (λ c. mem c rest) b) (held_more ws x (rw g.four p) b) ∙ go b (eqb b x) refl ∙ parts b;
   }
     where
       join : (a z m : Bool) → ((a || z) || true && m) ≡ (a || true && (z || m))
@@ -196,22 +187,18 @@ module _ (list : List ℕ) (i x : ℕ) (h : 1 < length list - i) (e : x ≡ word
       none false l m = refl
 
       go : (b : ℕ) (t : Bool) → eqb b x ≡ t
-          → ((held_in ws b || t) || ltb b 256 && mem b (words (drop (i + 2) list))) ≡ (held_in ws b || ltb b 256 && (t || mem b (words (drop (i + 2) list))))
+          → ((held_in ws b || t) || ltb b 256 && mem b rest) ≡ (held_in ws b || ltb b 256 && (t || mem b rest))
       go b true q =
           let z : b ≡ x = eqb-true b x q in
           let low : ltb b 256 ≡ true = lt-ltb b 256 (omega (arith, z, p)) in
-          rw low (join (held_in ws b) true (mem b (words (drop (i + 2) list))))
-      go b false q = none (held_in ws b) (ltb b 256) (mem b (words (drop (i + 2) list)))
+          rw low (join (held_in ws b) true (mem b rest))
+      go b false q = none (held_in ws b) (ltb b 256) (mem b rest)
 
-  pub collect_over : 4 ≤ x / 64 → (new : List ℕ) → new ≡ ws → Collected list (i + 2) new
-  collect_over p new is = record {
-    upto = omega arith;
-    four = ap length is ∙ g.four;
-    all = λ b. ap (λ (l : List ℕ). held_in l b || tabled (λ c. mem c (words (drop (i + 2) list))) b) is ∙ go b (eqb b x) refl ∙ parts b;
-  }
+  pub collect_over : 4 ≤ x / 64 → Collected list rest ws
+  collect_over p = record { four = g.four; all = λ b. go b (eqb b x) refl ∙ parts b }
     where
       go : (b : ℕ) (t : Bool) → eqb b x ≡ t
-          → (held_in ws b || ltb b 256 && mem b (words (drop (i + 2) list))) ≡ (held_in ws b || ltb b 256 && (t || mem b (words (drop (i + 2) list))))
+          → (held_in ws b || ltb b 256 && mem b rest) ≡ (held_in ws b || ltb b 256 && (t || mem b rest))
       go b true q =
           let z : b ≡ x = eqb-true b x q in
           let high : ltb b 256 ≡ false = le-ltb b 256 (omega (arith, z, p)) in
@@ -220,15 +207,38 @@ module _ (list : List ℕ) (i x : ℕ) (h : 1 < length list - i) (e : x ≡ word
 
 -- ---- the marking in bytes
 
--- the lowest i bits of a word are read
-abbrev pub Gathered : List ℕ → ℕ → ℕ → ℕ → Type 0
-Gathered state from i word = (j : ℕ) → bit_of word j ≡ (ltb j i && marking state (from + j))
+-- what begins at the end at the latest is the same as what may begin past it
+drop_least : (l : List ℕ) (from : ℕ) → drop (min from (length l)) l ≡ drop from l
+drop_least l from = go (leb from (length l)) refl
+  where
+    go : (t : Bool) → leb from (length l) ≡ t → drop (min from (length l)) l ≡ drop from l
+    go true e =
+        let h = leb-true from (length l) e in
+        let least : min from (length l) ≡ from = omega arith in
+        rw least
+    go false e =
+        let h = leb-false from (length l) e in
+        let least : min from (length l) ≡ length l = omega arith in
+        let past : drop from l ≡ [] = drop_of_length-le l (omega arith) in
+        rw (least, past, drop-length)
 
-pub gather_none : (state : List ℕ) (from : ℕ) → Gathered state from 0 0
-gather_none state from j = ap (λ (x : ℕ). eqb (x % 2) 1) (zero-div (2 ^ j)) ∙ sym (ap (λ (t : Bool). t && marking state (from + j)) (le-ltb j 0 (omega arith)))
+-- the bytes from a place on, at most 64 of them, however they are cut out
+pub bytes_there : (l : List ℕ) (from a n : ℕ) → a ≡ min from (length l) → n ≡ min (length (take (length l - a) (drop a l))) 64
+    → take n (take (length l - a) (drop a l)) ≡ take 64 (drop from l)
+bytes_there l from a n start size =
+    let whole = take_all (length l - a) (drop a l) (omega (arith, length-drop a l)) in
+    let most : n ≡ min 64 (length (drop a l)) = size ∙ rw whole (omega arith) in
+    rw (whole, most, take_min, start, drop_least l from)
+
+-- the lowest i bits of a word are read from bytes
+abbrev pub Gathered : List ℕ → ℕ → ℕ → Type 0
+Gathered bytes i word = (j : ℕ) → bit_of word j ≡ (ltb j i && marking bytes j)
+
+pub gather_none : (bytes : List ℕ) → Gathered bytes 0 0
+gather_none bytes j = ap (λ (x : ℕ). eqb (x % 2) 1) (zero-div (2 ^ j)) ∙ sym (ap (λ (t : Bool). t && marking bytes j) (le-ltb j 0 (omega arith)))
 
 -- one bit further, set where the condition holds
-module _ (state : List ℕ) (from i word : ℕ) (g : Gathered state from i word) where
+module _ (bytes : List ℕ) (i word : ℕ) (g : Gathered bytes i word) where
   below : (j : ℕ) → (j ≡ i → ⊥) → ltb j (i + 1) ≡ ltb j i
   below j n = go (ltb j i) refl
     where
@@ -236,42 +246,46 @@ module _ (state : List ℕ) (from i word : ℕ) (g : Gathered state from i word)
       go true e = let q = ltb-true j i e in lt-ltb j (i + 1) (omega arith)
       go false e = let q = ltb-false j i e in le-ltb j (i + 1) (omega arith)
 
-  pub gather_more : i < 64 → get_or state (from + i) 0 ≡ 1 → (new : ℕ) → new ≡ bit_or word ((1 * 2 ^ i) % 2 ^ 64) → Gathered state from (i + 1) new
+  pub gather_more : i < 64 → get_or bytes i 0 ≡ 1 → (new : ℕ) → new ≡ bit_or word ((1 * 2 ^ i) % 2 ^ 64) → Gathered bytes (i + 1) new
   unfolding marking
   gather_more l one new is j =
       ap (λ (x : ℕ). bit_of x j) (is ∙ ap (bit_or word) (shifted i l))
       ∙ bit_either word (2 ^ i) j ∙ ap₂ (λ (s t : Bool). s || t) (g j) (bit_one i j) ∙ go (eqb j i) refl
     where
-      h : marking state (from + i) ≡ true
-      h = eq-eqb (get_or state (from + i) 0) 1 one
+      h : marking bytes i ≡ true
+      h = eq-eqb (get_or bytes i 0) 1 one
 
-      go : (t : Bool) → eqb j i ≡ t → ((ltb j i && marking state (from + j)) || t) ≡ (ltb j (i + 1) && marking state (from + j))
+      go : (t : Bool) → eqb j i ≡ t → ((ltb j i && marking bytes j) || t) ≡ (ltb j (i + 1) && marking bytes j)
       go true q =
           let z : j ≡ i = eqb-true j i q in
-          or-true (ltb j i && marking state (from + j)) ∙ sym (ap₂ (λ (s t : Bool). s && t) (lt-ltb j (i + 1) (omega arith)) (ap (λ (x : ℕ). marking state (from + x)) z ∙ h))
-      go false q = or-false (ltb j i && marking state (from + j)) ∙ ap (λ (t : Bool). t && marking state (from + j)) (sym (below j (eqb-false j i q)))
+          or-true (ltb j i && marking bytes j) ∙ sym (ap₂ (λ (s t : Bool). s && t) (lt-ltb j (i + 1) (omega arith)) (ap (λ (x : ℕ). marking bytes x) z ∙ h))
+      go false q = or-false (ltb j i && marking bytes j) ∙ ap (λ (t : Bool). t && marking bytes j) (sym (below j (eqb-false j i q)))
 
-  pub gather_over : (get_or state (from + i) 0 ≡ 1 → ⊥) → (new : ℕ) → new ≡ word → Gathered state from (i + 1) new
+  pub gather_over : (get_or bytes i 0 ≡ 1 → ⊥) → (new : ℕ) → new ≡ word → Gathered bytes (i + 1) new
   unfolding marking
   gather_over other new is j = ap (λ (x : ℕ). bit_of x j) is ∙ g j ∙ go (eqb j i) refl
     where
-      h : marking state (from + i) ≡ false
-      h = ne_eqb (get_or state (from + i) 0) 1 other
+      h : marking bytes i ≡ false
+      h = ne_eqb (get_or bytes i 0) 1 other
 
-      go : (t : Bool) → eqb j i ≡ t → (ltb j i && marking state (from + j)) ≡ (ltb j (i + 1) && marking state (from + j))
+      go : (t : Bool) → eqb j i ≡ t → (ltb j i && marking bytes j) ≡ (ltb j (i + 1) && marking bytes j)
       go true q =
-          let z : marking state (from + j) ≡ false = ap (λ (x : ℕ). marking state (from + x)) (eqb-true j i q) ∙ h in
+          let z : marking bytes j ≡ false = ap (λ (x : ℕ). marking bytes x) (eqb-true j i q) ∙ h in
           rw z (and-false (ltb j i) ∙ sym (and-false (ltb j (i + 1))))
-      go false q = ap (λ (t : Bool). t && marking state (from + j)) (sym (below j (eqb-false j i q)))
+      go false q = ap (λ (t : Bool). t && marking bytes j) (sym (below j (eqb-false j i q)))
 
 -- all bits are read where 64 are, or all that there are
-pub gather_end : (state : List ℕ) (from i count word : ℕ) → Gathered state from i word → count ≤ i → count ≡ min 64 (length state - from)
+pub gather_end : (state bytes : List ℕ) (from i word : ℕ) → bytes ≡ take 64 (drop from state) → Gathered bytes i word → length bytes ≤ i
     → Tells (marking state) from word
-gather_end state from i count word g h e j l = g j ∙ go (ltb j i) refl
+unfolding marking
+gather_end state bytes from i word is g h j l = g j ∙ go (ltb j i) refl ∙ ap (λ (x : ℕ). eqb x 1) here
   where
-    go : (t : Bool) → ltb j i ≡ t → (t && marking state (from + j)) ≡ marking state (from + j)
+    here : get_or bytes j 0 ≡ get_or state (from + j) 0
+    here = rw (is, get_or-take, get_or-drop)
+
+    go : (t : Bool) → ltb j i ≡ t → (t && marking bytes j) ≡ marking bytes j
     go true q = refl
-    go false q = let z = ltb-false j i q in sym (tidy_marking state (from + j) (omega arith))
+    go false q = let z = ltb-false j i q in sym (tidy_marking bytes j (omega arith))
 
 -- four words that are read so are the marking
 pub held_gathered : (state : List ℕ) (w x y z : ℕ)

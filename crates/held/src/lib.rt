@@ -2,7 +2,7 @@
 // to lent bytes.
 #![tactic(auto)]
 
-ghost use Rattle.std.specs.Prelude.{◌≡◌, not, ◌&&◌, ◌||◌, ◌++◌, ◌-◌, ◌≤◌, min, length, drop};
+ghost use Rattle.std.specs.Prelude.{◌≡◌, not, ◌&&◌, ◌||◌, ◌++◌, ◌≤◌, length, take, drop};
 ghost use Rattle.lists.specs.Lists.{mem};
 ghost use Rattle.words.specs.Words.{words};
 ghost use Rattle.model.specs.Lent.{bit, bytes, marking};
@@ -60,41 +60,32 @@ pub fn collect(list: &[u8]) -> [u64; 4]
     ensures { held_in result ≡ tabled (λ b. mem b (words list.now)) }
 {
     let mut held = [0u64; 4];
-    let mut i: usize = 0;
-    while 1 < list.len() - i {
-        let b = words::word_within(list, i);
-        let place = (b / 64) as usize;
+    for b in words::numbers(list) {
+        let place = usize::from(b / 64);
         if place < 4 {
-            held[place] = held[place] | (1 << (b as u64 % 64));
+            held[place] |= 1 << (b % 64);
         }
-        i = i + 2;
     }
     held
 }
 
-// How many of the 64 bytes from one on are there.
-fn bytes_from(length: usize, from: usize) -> usize
-    ensures { result ≡ min 64 (length - from) }
+// The 64 bytes from one on, as many of them as there are.
+fn bytes_from(state: &[u8], from: usize) -> &[u8]
+    ensures { result.now ≡ take 64 (drop from state.now) }
 {
-    if length <= from {
-        return 0;
-    }
-    let left = length - from;
-    if 64 < left { 64 } else { left }
+    let rest = &state[from.min(state.len())..];
+    &rest[..rest.len().min(64)]
 }
 
 // The word of the 64 conditions from one on, by lent bytes; what has no byte does not hold.
 fn word_from(state: &[u8], from: usize) -> u64
     ensures { Tells (marking state.now) from result }
 {
-    let count = bytes_from(state.len(), from);
     let mut word: u64 = 0;
-    let mut i: usize = 0;
-    while i < count {
-        if state[from + i] == 1 {
-            word = word | (1 << i as u64);
+    for (j, byte) in bytes_from(state, from).iter().enumerate() {
+        if *byte == 1 {
+            word |= 1 << j;
         }
-        i = i + 1;
     }
     word
 }
@@ -123,9 +114,7 @@ pub fn spread(held: [u64; 4], count: usize, out: &mut [u8])
     requires { count ≤ length out.old }
     ensures { out.new ≡ bytes count (held_in held) ++ drop count out.old }
 {
-    let mut i: usize = 0;
-    while i < count {
-        out[i] = byte_of(held, i);
-        i = i + 1;
+    for (b, byte) in out[..count].iter_mut().enumerate() {
+        *byte = byte_of(held, b);
     }
 }

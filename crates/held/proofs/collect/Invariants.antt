@@ -1,11 +1,8 @@
--- What each turn of a loop in `held::collect` keeps, and what falls.
-use Prim.Native.Nat.{◌-◌}
-use lib.ListN.{length}
+-- The words so far, with the conditions that are left, are all of the list.
+use Rattle.words.specs.Words.{words}
+use Rattle.words.specs.Numbers.{numbers_left}
 use Rattle.held.proofs.Words.{Collected}
 use Rattle.held.proofs.collect.Given as goal
 
-abbrev pub invariant-loop-i : goal.invariant-loop-i
-invariant-loop-i l = Collected l.list l.i l.held
-
-abbrev pub decreases-loop-i : goal.decreases-loop-i
-decreases-loop-i l = length l.list - l.i
+abbrev pub invariant-loop-b : goal.invariant-loop-b
+invariant-loop-b l = Collected (words l.list) (numbers_left l.b-iterator) l.held

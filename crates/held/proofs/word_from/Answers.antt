@@ -1,30 +1,27 @@
 -- `held::word_from` meets its contract.
 use native.Mathlib.Omega.{arith}
+use mathlib.Core.Path.{ap}
+use lib.ListN.{length, length-take, drop}
 use Rattle.held.proofs.Words.{gather_none, gather_more, gather_over, gather_end}
-use borrow.Author.Rules.{rules}
 use Rattle.held.proofs.word_from.Goals as goal
-use Rattle.held.proofs.word_from.Goals.{then-state-from-eq1, else-state-from-eq1}
+use Rattle.held.proofs.word_from.Goals.{then-byte-eq1, else-byte-eq1}
 
-pub loop-i-init : goal.loop-i-init
-loop-i-init c =
-    gather_none _ _
-
-pub overflow_add-from : goal.overflow_add-from
-overflow_add-from c = let q = c.bytes_from-count.ensures in search rules
-
-pub bounds-state-from : goal.bounds-state-from
-bounds-state-from c = omega (arith, c.bytes_from-count.ensures)
+pub loop-j-init : goal.loop-j-init
+loop-j-init c = gather_none _
 
 pub overflow_shl-word : goal.overflow_shl-word
-overflow_shl-word c = omega (arith, c.bytes_from-count.ensures)
+overflow_shl-word c =
+    let most = ap length c.bytes_from-byte-items.ensures in
+    omega (arith, most, length-take 64 (drop c.args.from c.args.state.now))
+
+pub loop-j-preserved : goal.loop-j-preserved
+loop-j-preserved c =
+    let most = ap length c.bytes_from-byte-items.ensures in
+    let few = length-take 64 (drop c.args.from c.args.state.now) in
+    elim c.if-byte-eq1.branch [
+      | then-byte-eq1 t ↦ gather_more _ _ _ c.loop-j.invariant (omega (arith, most, few)) t.if-byte-eq1.true _ t.word-is
+      | else-byte-eq1 t ↦ gather_over _ _ _ c.loop-j.invariant t.if-byte-eq1.false _ t.word-is
+    ]
 
 pub returns : goal.returns
-returns c =
-    gather_end _ _ _ _ _ c.loop-i.invariant c.loop-i-test.false c.bytes_from-count.ensures
-
-pub loop-i-preserved : goal.loop-i-preserved
-loop-i-preserved c =
-    elim c.if-state-from-eq1.branch [
-      | then-state-from-eq1 t ↦ gather_more _ _ _ _ c.loop-i.invariant (omega (arith, c.bytes_from-count.ensures)) t.if-state-from-eq1.true _ t.word-is
-      | else-state-from-eq1 t ↦ gather_over _ _ _ _ c.loop-i.invariant t.if-state-from-eq1.false _ t.word-is
-    ]
+returns c = gather_end _ _ _ _ _ c.bytes_from-byte-items.ensures c.loop-j.invariant c.loop-j-test.false
