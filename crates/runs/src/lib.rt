@@ -5,7 +5,7 @@ ghost use Rattle.std.specs.Prelude.{◌≡◌, length};
 ghost use Rattle.runs.specs.Runs.{run_kind, lifted_kind, steps_in, read_answer, run_into};
 
 use records::Header;
-use refusal::{refused, Refusal};
+use refusal::{Refusal, refused};
 
 // The kind of a Run record.
 pub const RUN: u16 = 4;
@@ -44,10 +44,8 @@ fn read_record(bytes: &[u8], kind: u16, run: &mut [u16]) -> Result<usize, Refusa
     if run.len() < steps {
         return refused(16, steps);
     }
-    let mut k: usize = 0;
-    while k < steps {
-        run[k] = words::word(bytes, 4 + 2 * k);
-        k += 1;
+    for (k, step) in run[..steps].iter_mut().enumerate() {
+        *step = words::word(bytes, 4 + 2 * k);
     }
     Ok(steps)
 }

@@ -3,8 +3,8 @@ use Rattle.std.proofs.Common.{rules}
 use Prim.Native.Nat.{ℕ}
 use native.Mathlib.Omega.{arith}
 use mathlib.Core.Path.{◌≡◌, refl, sym, ◌∙◌}
-use lib.ListN.{length-set}
-use Rattle.lists.proofs.Stored.{stored_whole, store_next, store_end}
+use lib.ListN.{take, length-take}
+use Rattle.lists.proofs.Stored.{stored_all, store_next, store_end}
 use Rattle.runs.specs.Runs.{run_of}
 use Rattle.runs.proofs.Judging.{fine_is_record, length_run, step_at}
 use Rattle.runs.proofs.Answers.{read_refused, read_short, read_fits}
@@ -33,16 +33,17 @@ returns-then-run-steps c =
 pub loop-k-init : goal.loop-k-init
 loop-k-init c =
     let found = sym c.steps_in.ensures ∙ c.in_ok-steps.was in
-    (fine_is_record _ _ _ found, refl, refl)
+    (fine_is_record _ _ _ found, refl)
 
 pub loop-k-preserved : goal.loop-k-preserved
 loop-k-preserved c =
     let loop = c.loop-k in
     let k : ℕ = loop.k in
     let is = loop.invariant.0 in
-    let value = step_at is k c.loop-k-test.true in
-    let step = store_next loop.run (run_of c.args.bytes.now) k k 0 (omega (arith, length_run is)) in
-    (is, simp length-set loop.invariant.1, rw (c.word.ensures, ← value, ← step) loop.invariant.2)
+    let room = length-take c.in_ok-steps.steps c.args.run.now in
+    let value = step_at is k (omega (arith, room)) in
+    let step = store_next loop.step-items (run_of c.args.bytes.now) k k 0 (omega (arith, length_run is, room)) in
+    (is, rw (c.word.ensures, ← value, ← step) loop.invariant.1)
 
 pub returns : goal.returns
 returns c =
@@ -52,9 +53,11 @@ returns c =
     let (answer, lent) = read_fits _ _ args.run.now _ found fits in
     let loop = c.loop-k in
     let steps = length_run loop.invariant.0 in
-    let end = store_end loop.run (run_of args.bytes.now) loop.k loop.k (omega (arith, c.loop-k-test.false)) in
-    let whole = stored_whole (run_of args.bytes.now) args.run.now (omega (arith, fits)) in
+    let room = length-take c.in_ok-steps.steps args.run.now in
+    let end = store_end loop.step-items (run_of args.bytes.now) loop.k loop.k (omega (arith, room)) in
+    let whole = stored_all (run_of args.bytes.now) (take c.in_ok-steps.steps args.run.now) (omega (arith, room)) in
+    let read = sym end ∙ loop.invariant.1 ∙ whole in
     record {
       answer = sym answer;
-      lent = sym end ∙ loop.invariant.2 ∙ whole ∙ sym lent;
+      lent = rw read (sym (rw steps at lent));
     }
