@@ -7,7 +7,7 @@ ghost use Rattle.words.specs.Words.{bytes_of};
 ghost use Rattle.runs.specs.Runs.{run_kind, lifted_kind};
 ghost use Rattle.writing.specs.Writing.{write_answer, record_into};
 
-use refusal::{refused, Refusal};
+use refusal::{Refusal, refused};
 use runs::{LIFTED, RUN};
 
 // A number stored as its two bytes.
@@ -24,10 +24,8 @@ fn put_steps(run: &[u16], bytes: &mut [u8])
     requires { 4 + 2 * length run.now ≤ length bytes.old }
     ensures { bytes.new ≡ sets bytes.old 4 (bytes_of run.now) }
 {
-    let mut k: usize = 0;
-    while k < run.len() {
-        put_word(bytes, 4 + 2 * k, run[k]);
-        k += 1;
+    for (k, step) in run.iter().enumerate() {
+        put_word(bytes, 4 + 2 * k, *step);
     }
 }
 
