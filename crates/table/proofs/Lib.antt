@@ -3,3 +3,4 @@ pub mod Decoded
 pub mod Ruled
 pub mod Sound
 pub mod Links
+pub mod InOrder

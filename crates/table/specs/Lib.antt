@@ -3,3 +3,4 @@ pub mod Walk
 pub mod Decoded
 pub mod Tabled
 pub mod Links
+pub mod InOrder

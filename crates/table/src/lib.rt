@@ -1,13 +1,16 @@
 // A table judged in one pass, its counts, and where its events stand.
 #![tactic(auto)]
 
-ghost use Rattle.std.specs.Prelude.{◌≡◌};
+ghost use Rattle.std.specs.Prelude.{◌≡◌, ◌≤◌};
 ghost use Rattle.std.specs.Prelude.{Ok};
 ghost use Rattle.refusal.specs.Answer.{and_then};
 ghost use Rattle.records.specs.Records.{header_of};
 ghost use Rattle.table.specs.Walk.{kind_is, judge_of, offset_of};
 ghost use Rattle.table.specs.Decoded.{net_of};
 
+pub mod in_order;
+
+use in_order::Events;
 use refusal::Refusal;
 
 // Whether a whole Event record stands at an offset.
@@ -78,4 +81,20 @@ pub fn event_count(table: &[u8]) -> Result<usize, Refusal>
     ensures { result ≡ and_then (judge_of table.now) (λ _. Ok (net_of table.now).events) }
 {
     judge(table)
+}
+
+// A walk over the first events of a judged table, up to a number.
+#[inline]
+pub fn events(table: &[u8], end: usize) -> Events<'_>
+    requires { end ≤ (net_of table.now).events }
+    ensures same_table { result.table.now ≡ table.now }
+    ensures from_first { result.number ≡ 0 }
+    ensures to_end { result.end ≡ end }
+{
+    Events {
+        table,
+        number: 0,
+        at: offset(table, 0),
+        end,
+    }
 }
