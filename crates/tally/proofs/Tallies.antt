@@ -18,7 +18,7 @@ use Rattle.model.specs.Net.{Net}
 use Rattle.words.specs.Words.{words}
 use Rattle.table.specs.Decoded.{net_of}
 use Rattle.table.specs.Walk.{offset_of}
-use Rattle.tally.specs.Having.{list_of, list_part, having_from, having, raised, Room, Listed, Members, Tally, Filled}
+use Rattle.tally.specs.Having.{list_of, list_part, having_from, having, raised, Room, Listed, Members, Tally}
 use Rattle.tally.proofs.Lists.{one, raised_length, raised_at, words_long, ascending_short}
 use Rattle.tally.proofs.Events.{within_limits, list_read, list_ascends, list_inside}
 
@@ -44,9 +44,6 @@ keep_few t i (suc k) = go (t i) (keep_few t (suc i) k)
     go false h = omega arith
 
 -- ---- the tally
-
-pub tally_none : (n : Net) (post : Bool) (first k : ℕ) (counts : List ℕ) → k ≡ 256 → Filled first k counts → Tally n post first 0 counts
-tally_none n post first k counts q f = record { size = f.same ∙ q; at = λ b h. omega (arith, f.each b (omega arith)) }
 
 module _ (s : List ℕ) (post : Bool) (first k : ℕ) (counts : List ℕ) (small : first ≤ 1) (h : k < (net_of s).events) (t : Tally (net_of s) post first k counts) where
   low : (b : ℕ) → get_or counts b 0 ≤ 1000

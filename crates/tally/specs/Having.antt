@@ -52,8 +52,3 @@ Members l counts = (b : ℕ) → one_at counts b ≡ mem b l
 pub record Tally (n : Net) (post : Bool) (first k : ℕ) (counts : List ℕ) : Type 0 where
   pub size : length counts ≡ 256
   pub at : (b : ℕ) → b < 256 → get_or counts b 0 ≡ first + length (having n post b k)
-
--- Every number of a list is the same.
-pub record Filled (first size : ℕ) (counts : List ℕ) : Type 0 where
-  pub same : length counts ≡ size
-  pub each : (b : ℕ) → b < size → get_or counts b 0 ≡ first

@@ -6,7 +6,7 @@ ghost use Rattle.std.specs.Prelude.{◌≡◌, ◌≤◌, eqb, length, get_or};
 ghost use Rattle.lists.specs.Lists.{index};
 ghost use Rattle.words.specs.Words.{words};
 ghost use Rattle.table.specs.Decoded.{net_of};
-ghost use Rattle.tally.specs.Having.{list_part, having, raised, Room, Listed, Members, Tally, Filled};
+ghost use Rattle.tally.specs.Having.{list_part, having, raised, Room, Listed, Members, Tally};
 
 // One of the two lists of the Event record at an offset: the postconditions, or the preconditions.
 pub fn list_at(table: &[u8], at: usize, post: bool) -> &[u8]
@@ -24,17 +24,6 @@ pub fn number(counts: &[u32], b: usize) -> u32
     ensures { result ≡ get_or counts.now b 0 }
 {
     if b < counts.len() { counts[b] } else { 0 }
-}
-
-// Every number set to the same.
-fn fill(counts: &mut [u32], first: u32)
-    ensures { Filled first (length counts.old) counts.new }
-{
-    let mut i: usize = 0;
-    while i < counts.len() {
-        counts[i] = first;
-        i = i + 1;
-    }
 }
 
 // One more for each condition of a list.
@@ -81,13 +70,9 @@ pub fn tally(table: &[u8], upto: usize, post: bool, first: u32, counts: &mut [u3
     requires counts_len { length counts.old ≡ 256 }
     ensures { Tally (net_of table.now) post first upto counts.new }
 {
-    fill(counts, first);
-    let mut at = table::offset(table, 0);
-    let mut i: usize = 0;
-    while i < upto {
-        raise_low(counts, list_at(table, at, post));
-        at = at + 4 + words::word(table, at) as usize;
-        i = i + 1;
+    counts.fill(first);
+    for event in table::events(table, upto) {
+        raise_low(counts, list_at(table, event.at, post));
     }
 }
 
@@ -97,17 +82,13 @@ pub fn nth(table: &[u8], upto: usize, post: bool, b: usize, wanted: usize) -> us
     ensures { result ≡ get_or (having (net_of table.now) post b upto) wanted 0 }
 {
     let mut left = wanted;
-    let mut at = table::offset(table, 0);
-    let mut i: usize = 0;
-    while i < upto {
-        if words::has(list_at(table, at, post), b) {
+    for event in table::events(table, upto) {
+        if words::has(list_at(table, event.at, post), b) {
             if left == 0 {
-                return i;
+                return event.number;
             }
             left = left - 1;
         }
-        at = at + 4 + words::word(table, at) as usize;
-        i = i + 1;
     }
     0
 }
@@ -118,17 +99,13 @@ pub fn place(table: &[u8], upto: usize, post: bool, b: usize, e: usize) -> usize
     ensures { result ≡ index (eqb e) (having (net_of table.now) post b upto) }
 {
     let mut found: usize = 0;
-    let mut at = table::offset(table, 0);
-    let mut i: usize = 0;
-    while i < upto {
-        if words::has(list_at(table, at, post), b) {
-            if e == i {
+    for event in table::events(table, upto) {
+        if words::has(list_at(table, event.at, post), b) {
+            if e == event.number {
                 return found;
             }
             found = found + 1;
         }
-        at = at + 4 + words::word(table, at) as usize;
-        i = i + 1;
     }
     found
 }
