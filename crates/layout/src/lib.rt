@@ -57,32 +57,31 @@ fn sums<'a>(table: &'a [u8], markers: &'a [u32], users: &'a [u32], bases: &mut [
 {
     let n = records::conditions(table) as usize;
     let mut total: u32 = 0;
-    let mut b: usize = 0;
-    while b < n {
+    for b in 0..n {
         bases[b] = total;
         total = total + width(table, markers, users, b);
-        b = b + 1;
     }
     bases[n] = total;
 }
 
 // All events looked at: 13 at the lowest that touches nothing, else the sum of their numbers of colours.
-fn events_judged<'a>(table: &'a [u8], events: usize, markers: &'a [u32], users: &'a [u32]) -> Result<usize, Refusal>
+fn events_judged<'a>(
+    table: &'a [u8],
+    events: usize,
+    markers: &'a [u32],
+    users: &'a [u32],
+) -> Result<usize, Refusal>
     requires counted { Counted table.now markers.now users.now }
     requires events_value { events ≡ (net_of table.now).events }
     ensures { result ≡ events_of (net_of table.now) }
 {
     let mut total: usize = 0;
-    let mut at = table::offset(table, 0);
-    let mut e: usize = 0;
-    while e < events {
-        let pre = tally::list_at(table, at, false);
-        if idle(table, users, pre, tally::list_at(table, at, true)) {
-            return refusal::refused(13, e);
+    for event in table::events(table, events) {
+        let pre = tally::list_at(table, event.at, false);
+        if idle(table, users, pre, tally::list_at(table, event.at, true)) {
+            return refusal::refused(13, event.number);
         }
         total = total + colours::colours(table, markers, pre) as usize;
-        at = at + 4 + words::word(table, at) as usize;
-        e = e + 1;
     }
     Ok(total)
 }
@@ -111,7 +110,12 @@ fn within_limits<'a>(
 }
 
 // A table laid out for its unfolding: judged, its numbers written where they are lent, then 13 and 14; fine: the number of its events.
-pub fn lay_out(table: &[u8], markers: &mut [u32], users: &mut [u32], bases: &mut [u32]) -> Result<usize, Refusal>
+pub fn lay_out(
+    table: &[u8],
+    markers: &mut [u32],
+    users: &mut [u32],
+    bases: &mut [u32],
+) -> Result<usize, Refusal>
     requires { (length markers.old ≡ 256) × (length users.old ≡ 256) × (length bases.old ≡ 257) }
     ensures { LaidOut table.now result markers.new users.new bases.new }
 {
