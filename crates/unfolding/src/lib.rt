@@ -75,21 +75,17 @@ pub fn owner<'a>(table: &'a [u8], events: usize, markers: &'a [u32], j: u32) -> 
     ensures { Belongs table.now j result }
 {
     let mut rest = j;
-    let mut at = table::offset(table, 0);
-    let mut e: usize = 0;
-    while e < events {
-        let weight = colours::colours(table, markers, tally::list_at(table, at, false));
+    for event in table::events(table, events) {
+        let weight = colours::colours(table, markers, tally::list_at(table, event.at, false));
         if rest < weight {
             return Some(Coloured {
-                event: e,
-                at,
+                event: event.number,
+                at: event.at,
                 weight,
                 rest,
             });
         }
         rest = rest - weight;
-        at = at + 4 + words::word(table, at) as usize;
-        e = e + 1;
     }
     None
 }
@@ -101,12 +97,9 @@ pub fn colours_before<'a>(table: &'a [u8], events: usize, markers: &'a [u32], up
     ensures { result ≡ sum (size (net_of table.now)) upto }
 {
     let mut total: usize = 0;
-    let mut at = table::offset(table, 0);
-    let mut e: usize = 0;
-    while e < upto {
-        total = total + colours::colours(table, markers, tally::list_at(table, at, false)) as usize;
-        at = at + 4 + words::word(table, at) as usize;
-        e = e + 1;
+    for event in table::events(table, upto) {
+        total = total
+            + colours::colours(table, markers, tally::list_at(table, event.at, false)) as usize;
     }
     total
 }

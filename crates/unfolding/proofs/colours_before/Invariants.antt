@@ -1,14 +1,10 @@
--- What each turn of a loop in `unfolding::colours_before` keeps, and what falls.
-use Prim.Native.Nat.{◌≤◌, ◌-◌}
+-- What each turn of a loop in `unfolding::colours_before` keeps.
 use mathlib.Core.Path.{◌≡◌}
 use Rattle.lists.specs.Lists.{sum}
 use Rattle.model.specs.Numbering.{size}
-use Rattle.table.specs.Walk.{offset_of}
 use Rattle.table.specs.Decoded.{net_of}
+use Rattle.table.proofs.InOrder.{Over}
 use Rattle.unfolding.proofs.colours_before.Given as goal
 
-abbrev pub invariant-loop-e : goal.invariant-loop-e
-invariant-loop-e l = (l.e ≤ l.upto) × (l.at ≡ offset_of l.table l.e) × (l.total ≡ sum (size (net_of l.table)) l.e)
-
-abbrev pub decreases-loop-e : goal.decreases-loop-e
-decreases-loop-e l = l.upto - l.e
+abbrev pub invariant-loop-event : goal.invariant-loop-event
+invariant-loop-event l = Over l.table l.upto l.event-iterator × (l.total ≡ sum (size (net_of l.table)) l.event-iterator.number)
