@@ -26,7 +26,7 @@ use borrow.Author.Tests.{lt-leb}
 use Rattle.stopping.specs.Causes.{refusal_at}
 use Rattle.held.specs.Held.{held_in}
 use Rattle.step.specs.Tests.{Moves}
-use Rattle.stopping.specs.Table.{Cause, cause_of, stopped_at}
+use Rattle.stopping.specs.Table.{Cause, stopped_at}
 use Rattle.game.proofs.Found.{stopped_is}
 use Rattle.model.specs.Lent.{bytes, marking}
 use Rattle.played.specs.Begun.{begun_at}

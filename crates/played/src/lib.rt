@@ -23,12 +23,8 @@ pub fn fill(table: &[u8], n: usize, offsets: &mut [usize])
     requires { (judge_of table.now ≡ Ok n) × (n ≤ length offsets.old) }
     ensures { Indexed table.now n offsets.new }
 {
-    let mut at = table::offset(table, 0);
-    let mut i: usize = 0;
-    while i < n {
-        offsets[i] = at;
-        at = at + 4 + words::word(table, at) as usize;
-        i = i + 1;
+    for event in table::events(table, n) {
+        offsets[event.number] = event.at;
     }
 }
 

@@ -1,11 +1,10 @@
--- What each turn of a loop in `played::fill` keeps, and what falls.
-use Prim.Native.Nat.{◌-◌}
-use lib.ListN.{length}
-use Rattle.played.proofs.Index.{Filling}
+-- What each turn of a loop in `played::fill` keeps.
+use Prim.Native.Nat.{ℕ, ◌<◌}
+use mathlib.Core.Path.{◌≡◌}
+use lib.ListN.{get_or}
+use Rattle.table.specs.Walk.{offset_of}
+use Rattle.table.proofs.InOrder.{Over}
 use Rattle.played.proofs.fill.Given as goal
 
-abbrev pub invariant-loop-i : goal.invariant-loop-i
-invariant-loop-i l = Filling l.table l.n l.i l.at (length l.initial.offsets) l.offsets
-
-abbrev pub decreases-loop-i : goal.decreases-loop-i
-decreases-loop-i l = l.n - l.i
+abbrev pub invariant-loop-event : goal.invariant-loop-event
+invariant-loop-event l = Over l.table l.n l.event-iterator × ((e : ℕ) → e < l.event-iterator.number → get_or l.offsets e 0 ≡ offset_of l.table e)

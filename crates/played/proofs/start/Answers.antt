@@ -2,7 +2,7 @@
 use native.Mathlib.Omega.{arith}
 use mathlib.Core.Path.{◌∙◌}
 use Rattle.table.proofs.Walk.{accepted}
-use Rattle.played.proofs.Index.{start_put}
+use Rattle.played.proofs.Starts.{start_put}
 use Rattle.played.proofs.start.Goals as goal
 
 pub overflow_cast-n : goal.overflow_cast-n

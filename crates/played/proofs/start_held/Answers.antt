@@ -1,7 +1,7 @@
 -- `played::start_held` meets its contract.
 use native.Mathlib.Omega.{arith}
 use Rattle.table.proofs.Walk.{accepted}
-use Rattle.played.proofs.Index.{start_collected}
+use Rattle.played.proofs.Starts.{start_collected}
 use Rattle.played.proofs.start_held.Goals as goal
 
 pub overflow_cast-n : goal.overflow_cast-n
