@@ -18,7 +18,7 @@ use Rattle.table.specs.Walk.{offset_of}
 use Rattle.table.specs.Decoded.{net_of}
 use Rattle.tally.specs.Having.{list_part}
 use Rattle.tally.proofs.Events.{list_read, list_inside}
-use Rattle.repeats.specs.Repeats.{Used, others_at, Once}
+use Rattle.repeats.specs.Repeats.{Used, others_at}
 use Rattle.repeats.proofs.Others.{others_counted}
 
 -- ---- what an event marks
@@ -52,15 +52,9 @@ pub record Upto (n : Net) (k : ℕ) (once : List ℕ) : Type 0 where
   pub size : length once ≡ 256
   pub each : (e : ℕ) → e < k → eqb (get_or once e 0) 1 ≡ marks_for_others n e
 
-pub upto_none : (n : Net) (once : List ℕ) → length once ≡ 256 → Upto n 0 once
-upto_none n once z = record { size = z; each = λ e h. absurd (omega arith) }
-
 pub upto_next : (n : Net) (k : ℕ) (once : List ℕ) → Upto n k once → k < 256 → (v : ℕ) → eqb v 1 ≡ marks_for_others n k → Upto n (k + 1) (set once k v)
 upto_next n k once u l v m = record { size = length-set once k v ∙ u.size; each = λ e h. go e h (ℕ_discrete e k) }
   where
     go : (e : ℕ) → e < k + 1 → Dec (e ≡ k) → eqb (get_or (set once k v) e 0) 1 ≡ marks_for_others n e
     go e h (yes z) = rw (z, get_or-set_same once k v 0 (omega (arith, u.size))) m
     go e h (no z) = rw (get_or-set_other once k e v 0 z) (u.each e (omega (arith, z)))
-
-pub upto_all : (n : Net) (k : ℕ) (once : List ℕ) → Upto n k once → k ≡ n.events → Once n once
-upto_all n k once u q = record { size = u.size; each = λ e h. u.each e (omega arith) }

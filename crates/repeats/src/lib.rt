@@ -46,17 +46,9 @@ pub fn once_only<'a>(table: &'a [u8], events: usize, users: &'a [u32], once: &mu
     requires once_len { length once.old ≡ 256 }
     ensures { Once (net_of table.now) once.new }
 {
-    let mut at = table::offset(table, 0);
-    let mut e: usize = 0;
-    while e < events {
-        let pre = tally::list_at(table, at, false);
-        let post = tally::list_at(table, at, true);
-        once[e] = if marks_for_others(table, users, pre, post) {
-            1
-        } else {
-            0
-        };
-        at = at + 4 + words::word(table, at) as usize;
-        e = e + 1;
+    for event in table::events(table, events) {
+        let pre = tally::list_at(table, event.at, false);
+        let post = tally::list_at(table, event.at, true);
+        once[event.number] = marks_for_others(table, users, pre, post) as u8;
     }
 }
