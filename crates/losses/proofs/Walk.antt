@@ -89,9 +89,6 @@ pub record Writing (events : ℕ) (lost : ℕ → Bool) (old : List ℕ) (e : �
   pub rest : sets out e (drop e (bytes events lost)) ≡ sets old 0 (bytes events lost)
 
 module _ (events : ℕ) (lost : ℕ → Bool) (old : List ℕ) where
-  pub writing_none : Writing events lost old 0 old
-  writing_none = record { size = refl; rest = refl }
-
   pub writing_next : (e : ℕ) (out : List ℕ) → Writing events lost old e out → e < events → (v : ℕ) → v ≡ bit (lost e)
       → Writing events lost old (e + 1) (set out e v)
   writing_next e out w h v q =

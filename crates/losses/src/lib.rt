@@ -100,18 +100,10 @@ fn write_lossy<'a>(table: &'a [u8], events: usize, once: &'a [u8], puts: &'a [u3
     requires events_in_bounds { events ≤ length out.old }
     ensures { out.new ≡ bytes events (lossy (net_of table.now)) ++ drop events out.old }
 {
-    let mut at = table::offset(table, 0);
-    let mut e: usize = 0;
-    while e < events {
-        let pre = tally::list_at(table, at, false);
-        let post = tally::list_at(table, at, true);
-        out[e] = if is_lossy(table, once[e], puts, pre, post) {
-            1
-        } else {
-            0
-        };
-        at = at + 4 + words::word(table, at) as usize;
-        e = e + 1;
+    for event in table::events(table, events) {
+        let pre = tally::list_at(table, event.at, false);
+        let post = tally::list_at(table, event.at, true);
+        out[event.number] = is_lossy(table, once[event.number], puts, pre, post) as u8;
     }
 }
 
