@@ -18,13 +18,9 @@ pub fn sizes_before<'a>(table: &'a [u8], events: usize, markers: &'a [u32], befo
     ensures { Sums (size (net_of table.now)) (net_of table.now).events before.new }
 {
     let mut total: u32 = 0;
-    let mut at = table::offset(table, 0);
-    let mut e: usize = 0;
-    while e < events {
-        before[e] = total;
-        total = total + colours::colours(table, markers, tally::list_at(table, at, false));
-        at = at + 4 + words::word(table, at) as usize;
-        e = e + 1;
+    for event in table::events(table, events) {
+        before[event.number] = total;
+        total = total + colours::colours(table, markers, tally::list_at(table, event.at, false));
     }
     before[events] = total;
 }
