@@ -6,8 +6,7 @@ use mathlib.Core.Path.{◌≡◌, refl, sym, ◌∙◌, subst}
 use mathlib.Core.Bool.{false}
 use mathlib.Core.List.{List}
 use lib.Dec.{T}
-use lib.ListN.{length, get_or, drop, set, length-set}
-use lib.Seq.{get_or-set_same, get_or-set_other}
+use lib.ListN.{length, get_or, drop}
 use Rattle.lists.specs.Lists.{mem}
 use Rattle.lists.proofs.Bools.{T_of, not-true}
 use Rattle.words.specs.Words.{word_at, words}
@@ -29,19 +28,6 @@ fits_same from count l out e f = record { inside = omega (arith, f.inside); smal
 
 pub ranged_none : (from v : ℕ) (l : List ℕ) → Ranged from 0 v l l
 ranged_none from v l = record { same = refl; inside = λ k w. absurd (omega (arith, w.0, w.1)); outside = λ k w. refl }
-
-pub ranged_more : (from i v : ℕ) (l out : List ℕ) → from + i < length out → Ranged from i v l out → Ranged from (i + 1) v l (set out (from + i) v)
-ranged_more from i v l out h r =
-    record {
-      same = length-set out (from + i) v ∙ r.same;
-      inside = λ k w. go k (ℕ_discrete k (from + i)) w.0 w.1;
-      outside = λ k w.
-          get_or-set_other out (from + i) k v 0 (λ e. w (omega (arith, e), omega (arith, e))) ∙ r.outside k (λ x. w (x.0, omega (arith, x.1)));
-    }
-  where
-    go : (k : ℕ) → Dec (k ≡ from + i) → from ≤ k → k < from + (i + 1) → get_or (set out (from + i) v) k 0 ≡ v
-    go k (yes e) a b = rw e (get_or-set_same out (from + i) v 0 h)
-    go k (no e) a b = get_or-set_other out (from + i) k v 0 e ∙ r.inside k (a, omega (arith, e))
 
 -- ---- the ranges of a list, as far as it is walked
 

@@ -16,11 +16,7 @@ fn fill(out: &mut [u8], from: usize, count: usize, holds: bool)
     requires { Fits from count out.old }
     ensures { Ranged from count (bit holds) out.old out.new }
 {
-    let mut i: usize = 0;
-    while i < count {
-        out[from + i] = holds as u8;
-        i = i + 1;
-    }
+    out[from..from + count].fill(holds as u8);
 }
 
 // The byte of an ordinary condition, or of a persistent one the copies that the start marks.
@@ -62,10 +58,8 @@ fn write_first<'a>(
     ensures { OwnRight (net_of table.now) (held_in held) out.old out.new }
 {
     let n = records::conditions(table) as usize;
-    let mut b: usize = 0;
-    while b < n {
+    for b in 0..n {
         write_own(table, users, bases, begun, held, b, out);
-        b = b + 1;
     }
 }
 
@@ -125,22 +119,11 @@ fn write_events<'a>(
     requires tally { Tally (net_of table.now) true 1 0 places.old }
     ensures { EventsRight (net_of table.now) (marking seen.now) out.old out.new }
 {
-    let mut at = table::offset(table, 0);
-    let mut e: usize = 0;
-    while e < events {
-        let list = tally::list_at(table, at, true);
-        write_list(
-            table,
-            users,
-            bases,
-            &places[..],
-            list,
-            words::byte(seen, e) == 1,
-            out,
-        );
+    for event in table::events(table, events) {
+        let list = tally::list_at(table, event.at, true);
+        let holds = words::byte(seen, event.number) == 1;
+        write_list(table, users, bases, &places[..], list, holds, out);
         tally::raise(places, list);
-        at = at + 4 + words::word(table, at) as usize;
-        e = e + 1;
     }
 }
 

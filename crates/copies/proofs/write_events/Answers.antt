@@ -1,53 +1,42 @@
 -- `copies::write_events` meets its contract.
-use mathlib.Core.Path.{sym, ◌∙◌}
+use mathlib.Core.Path.{◌≡◌, ◌∙◌}
 use mathlib.Core.Bool.{true}
 use native.Mathlib.Omega.{arith}
-use lib.ListN.{length}
 use Rattle.model.specs.Lent.{marking}
 use Rattle.table.specs.Decoded.{net_of}
-use Rattle.tally.proofs.Events.{walk_next, walk_within}
+use Rattle.table.proofs.InOrder.{passed}
 use Rattle.tally.proofs.Tallies.{tally_room, tally_next}
 use Rattle.copies.proofs.Steps.{marked_end, walk_fits, walk_event}
 use Rattle.copies.proofs.write_events.Goals as goal
 
-pub loop-e-init : goal.loop-e-init
-loop-e-init c =
-    (omega arith, c.offset-at.ensures, c.requires.tally.size, omega arith, c.requires.tally, λ m before r. r)
-
 pub write_list-requires : goal.write_list-requires
 write_list-requires c =
-    walk_fits c.args.table.now c.args.users.now c.args.bases.now (length c.args.out.now) c.requires.roomy c.loop-e.e (omega arith) c.loop-e.places c.loop-e.invariant.4 c.loop-e.at c.list_at-list.result.now c.loop-e.invariant.1 c.list_at-list.ensures c.loop-e.out c.loop-e.invariant.3
+    let i = c.loop-event.invariant in
+    let p = passed _ _ _ _ _ i.0 c.in-Some.ensures.steps in
+    walk_fits _ _ _ _ c.requires.roomy _ p.inside _ i.2 _ _ p.at_is c.list_at-list.ensures _ i.1
 
 pub raise-requires : goal.raise-requires
 raise-requires c =
-    tally_room c.args.table.now true 1 c.loop-e.e c.loop-e.places (omega arith) (omega arith) c.loop-e.invariant.4 c.loop-e.at c.list_at-list.result.now c.loop-e.invariant.1 c.list_at-list.ensures
+    let i = c.loop-event.invariant in
+    let p = passed _ _ _ _ _ i.0 c.in-Some.ensures.steps in
+    tally_room c.args.table.now true 1 _ _ (omega arith) p.inside i.2 _ _ p.at_is c.list_at-list.ensures
 
-pub overflow_add-at : goal.overflow_add-at
-overflow_add-at c =
-    omega (arith, walk_within c.args.table.now c.loop-e.e c.loop-e.at (omega arith) c.loop-e.invariant.1)
-
-pub overflow_add-at-in-loop-e : goal.overflow_add-at-in-loop-e
-overflow_add-at-in-loop-e c =
-    omega (arith, walk_within c.args.table.now c.loop-e.e c.loop-e.at (omega arith) c.loop-e.invariant.1, c.word.ensures)
-
-pub loop-e-smaller : goal.loop-e-smaller
-loop-e-smaller c =
-    omega arith
-
-pub loop-e-preserved : goal.loop-e-preserved
-loop-e-preserved c =
-    let on = walk_next c.args.table.now c.loop-e.e c.loop-e.at (omega arith) c.loop-e.invariant.1 c.word.result c.word.ensures in
-    let t = tally_next c.args.table.now true 1 c.loop-e.e c.loop-e.places (omega arith) (omega arith) c.loop-e.invariant.4 c.loop-e.at c.list_at-list.result.now c.loop-e.invariant.1 c.list_at-list.ensures in
-    (omega arith, on, rw c.raise.ensures t.size, omega (arith, c.write_list.ensures.same, c.loop-e.invariant.3), rw c.raise.ensures t, λ m before r. walk_event c.args.table.now c.args.users.now c.args.bases.now (length c.args.out.now) c.requires.roomy c.loop-e.e (omega arith) c.loop-e.places c.loop-e.invariant.4 c.loop-e.at c.list_at-list.result.now c.loop-e.invariant.1 c.list_at-list.ensures m c.args.seen.now c.byte.result c.byte.ensures before c.loop-e.out _ (c.loop-e.invariant.5 m before r) c.write_list.ensures)
-
-pub shape_of-places : goal.shape_of-places
-shape_of-places c =
-    c.loop-e.invariant.2 ∙ sym c.requires.tally.size
-
-pub shape_of-out : goal.shape_of-out
-shape_of-out c =
-    c.loop-e.invariant.3
+pub loop-event-preserved : goal.loop-event-preserved
+loop-event-preserved c =
+    let i = c.loop-event.invariant in
+    let p = passed _ _ _ _ _ i.0 c.in-Some.ensures.steps in
+    let t = tally_next c.args.table.now true 1 _ _ (omega arith) p.inside i.2 _ _ p.at_is c.list_at-list.ensures in
+    let told = rw p.number_is at c.byte-holds.ensures in (
+      p.over,
+      omega (arith, c.write_list.ensures.same, i.1),
+      rw (p.next_number, c.raise.ensures) t,
+      λ m before r.
+          rw p.next_number
+          (walk_event _ _ _ _ c.requires.roomy _ p.inside _ i.2 _ _ p.at_is c.list_at-list.ensures m _ _ told before _ _ (i.3 m before r) c.write_list.ensures),
+    )
 
 pub returns : goal.returns
 returns c =
-    λ m before r. marked_end (net_of c.args.table.now) m (marking c.args.seen.now) c.loop-e.e (omega (arith, c.requires.events_value)) before c.loop-e.out (c.loop-e.invariant.5 m before r)
+    let i = c.loop-event.invariant in
+    let z : c.loop-event.event-iterator.number ≡ c.args.events = omega (arith, i.0, c.in-None.ensures.steps) in
+    λ m before r. marked_end (net_of c.args.table.now) m (marking c.args.seen.now) _ (z ∙ c.requires.events_value) before _ (i.3 m before r)
