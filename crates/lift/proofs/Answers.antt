@@ -12,9 +12,8 @@ use Rattle.model.specs.Across.{of_table, Refusal, Answer, run, unless, stuck, to
 use Rattle.model.proofs.Answers.{not_stuck, stuck_none, run_lifting}
 use Rattle.model.proofs.Firing.{runs_event}
 use Rattle.refusal.specs.declared.Refusal as declared
-use Rattle.refusal.specs.Answer.{Judged}
-use Rattle.std.specs.Prelude.{Ok, Err}
-use Rattle.refusal.specs.Answer.{refused_at, fitting, written}
+use Rattle.std.specs.Prelude.{Result, Ok, Err, None, Some}
+use Rattle.refusal.specs.Answer.{Judged, refused_at, fitting, written}
 use Rattle.refusal.proofs.Chain.{then_fine, fitting_room, fitting_short, written_refused}
 use Rattle.table.specs.Walk.{judge_of}
 use Rattle.table.specs.Decoded.{net_of}
@@ -25,15 +24,13 @@ use Rattle.table.proofs.Links.{links_open, links_refused}
 use Rattle.table.proofs.Decoded.{events_are_all}
 use Rattle.layout.specs.Laid.{Laid}
 use Rattle.played.specs.Begun.{begun_at}
-use Rattle.played.specs.Played.{Plays}
+use Rattle.played.specs.Played.{ended, Plays}
 use Rattle.across.specs.Calls.{fitted, numbers_of, across_of}
 use Rattle.across.specs.Prepared.{prepared_of}
 use Rattle.across.proofs.Prefix.{across_passed, across_on, across_judged, fitted_link, fitted_across}
 use Rattle.repeats.specs.Repeats.{Used}
-use Rattle.firsts.specs.declared.Slot.{Slot}
-use Rattle.firsts.specs.declared.Repeat.TheVariants.{Never, At}
 use Rattle.firsts.specs.declared.Walked.{Walked}
-use Rattle.firsts.specs.Firsts.{repeat_of}
+use Rattle.firsts.specs.Firsts.{Slot, repeat_of}
 use Rattle.firsts.specs.Walks.{Walks}
 use Rattle.later.specs.Later.{Later}
 use Rattle.places.specs.Numbers as numbers
@@ -80,24 +77,31 @@ begun_opening : (n : Net) → begun_at n (begin n) ≡ opening n
 unfolding opening begun_at begin
 begun_opening n = refl
 
-module _ (s r : List ℕ) (answer : Judged) (l : List ℕ) (p : Plays (net_of s) (begin (net_of s)) r answer l) where
-  told : answer ≡ refused_or (too_long r) (refused_or (stuck of_table (replay (net_of s) 0 (opening (net_of s)) r)) (Ok (net_of s).conditions))
+module _ (s r : List ℕ) (answer : Result (List ℕ) declared.Refusal) (p : Plays (net_of s) (begin (net_of s)) r answer) where
+  told : ended (net_of s).conditions answer
+      ≡ refused_or (too_long r) (refused_or (stuck of_table (replay (net_of s) 0 (opening (net_of s)) r)) (Ok (net_of s).conditions))
   told = p.told ∙ ap (λ (t : State). refused_or (too_long r) (refused_or (stuck of_table (replay (net_of s) 0 t r)) (Ok (net_of s).conditions))) (begun_opening (net_of s))
 
   -- a step that is stopped is what the lift answers
-  pub lift_stopped : (room : ℕ) {x : declared.Refusal} → across_of s r (Ok 0) ≡ Ok 0 → across_of s r (fitted (lifting_of (net_of s) r) room) ≡ fitted (lifting_of (net_of s) r) room → answer ≡ Err x → answer ≡ lift_of s r room
+  pub lift_stopped : (room : ℕ) {x : declared.Refusal} → across_of s r (Ok 0) ≡ Ok 0
+      → across_of s r (fitted (lifting_of (net_of s) r) room) ≡ fitted (lifting_of (net_of s) r) room → answer ≡ Err x → Err x ≡ lift_of s r room
   unfolding lifting
   lift_stopped room {x} z o t =
       let st = stuck of_table (replay (net_of s) 0 (opening (net_of s)) r) in
       let a = unless (again (repeated (net_of s) (own_or_earliest (net_of s)) 0 (opening (net_of s)) r)) (run (lifted (net_of s) (own_or_earliest (net_of s)) (opening (net_of s)) r)) in
-      told ∙ links_refused (too_long r) st (net_of s).conditions (fitted a room) x (sym told ∙ t)
+      let stops = sym told ∙ ap (ended (net_of s).conditions) t in
+      sym stops ∙ links_refused (too_long r) st (net_of s).conditions (fitted a room) x stops
       ∙ ap (λ (y : Option Refusal). refused_or y (refused_or st (fitted a room))) (across_open s r z).0
       ∙ sym (fitted_link st a room) ∙ sym (lift_across s r room ∙ o)
 
   -- else it is a run
-  pub lift_runs : (x : ℕ) → answer ≡ Ok x → T (runs (net_of s) (begin (net_of s)) r)
+  pub lift_runs : (held : List ℕ) → answer ≡ Ok held → T (runs (net_of s) (begin (net_of s)) r)
   unfolding opening
-  lift_runs x t = not_stuck of_table (net_of s) 0 (opening (net_of s)) r (links_open (too_long r) (stuck of_table (replay (net_of s) 0 (opening (net_of s)) r)) (net_of s).conditions x (sym told ∙ t)).1
+  lift_runs held t =
+      let count = (net_of s).conditions in
+      let goes_on = sym told ∙ ap (ended count) t in
+      let st = stuck of_table (replay (net_of s) 0 (opening (net_of s)) r) in
+      not_stuck of_table (net_of s) 0 (opening (net_of s)) r (links_open (too_long r) st count count goes_on).1
 
 -- ---- a run lifted
 
@@ -122,11 +126,11 @@ module _ (n : Net) (r : List ℕ) (t : T (runs n (begin n) r)) where
 
   module _ (w : Walked) (seen : List ℕ) (told : Walks n r w seen) where
     -- 15
-    pub lift_again : (room k : ℕ) → w.repeat ≡ At k → refused_at 15 k ≡ fitted (lifting_of n r) room
+    pub lift_again : (room k : ℕ) → w.repeat ≡ Some k → refused_at 15 k ≡ fitted (lifting_of n r) room
     unfolding lifting fitted opening
     lift_again room k z = rw (stuck_none of_table n 0 (opening n) r t, ← told.repeat, z)
 
-    module _ (z : w.repeat ≡ Never) where
+    module _ (z : w.repeat ≡ None) where
       never : repeated n (own_or_earliest n) 0 (opening n) r ≡ none
       never = sym told.repeat ∙ ap repeat_of z
 

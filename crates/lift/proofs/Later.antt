@@ -17,8 +17,7 @@ use Rattle.model.specs.Unfolding.{markers, users}
 use Rattle.model.specs.Across.{or_start}
 use Rattle.model.proofs.Unfolded.{event_marks}
 use Rattle.model.proofs.Counts.{distinct_users}
-use Rattle.firsts.specs.declared.Slot.{Slot}
-use Rattle.firsts.specs.Firsts.{first_at}
+use Rattle.firsts.specs.Firsts.{Slot, first_at}
 use Rattle.later.specs.Later.{own_or, Later}
 use Rattle.places.specs.Places.{Marking}
 

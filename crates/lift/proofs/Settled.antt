@@ -28,8 +28,7 @@ use Rattle.model.proofs.Counts.{number_counted}
 use Rattle.model.proofs.Repeats.{repeated_cons}
 use Rattle.model.proofs.Own.{own_lawful}
 use Rattle.table.specs.Tabled.{Tabled}
-use Rattle.firsts.specs.declared.Slot.{Slot}
-use Rattle.firsts.specs.Firsts.{first_at}
+use Rattle.firsts.specs.Firsts.{Slot, first_at}
 use Rattle.firsts.specs.Walks.{Tells}
 use Rattle.later.specs.Later.{Later}
 use Rattle.places.specs.Places.{Marking}

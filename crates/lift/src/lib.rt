@@ -11,7 +11,6 @@ ghost use Rattle.across.specs.Calls.{fitted, numbers_of};
 ghost use Rattle.lift.specs.Calls.{lift_of, lifted_of};
 ghost use Rattle.lift.specs.Played.{numbers_for, Writing, Liftable};
 
-use firsts::Repeat;
 use refusal::Refusal;
 
 // The number of each step's event, to the front of a lent output: that of its first occurrence, and from then on the later one.
@@ -47,8 +46,7 @@ fn lift_played<'a>(
     repeats::once_only(table, events, users, &mut once);
     let mut seen = [0u8; 256];
     let walked = firsts::walk(table, events, offsets, &once, run, &mut seen);
-    let repeat = walked.repeat;
-    if let Repeat::At(k) = repeat {
+    if let Some(k) = walked.repeat {
         return refusal::refused(15, k);
     }
     if out.len() < run.len() {
@@ -84,7 +82,6 @@ pub fn lift<'a>(table: &'a [u8], run: &'a [u16], out: &mut [u16]) -> Result<usiz
     let mut offsets = [0usize; 256];
     played::fill(table, events, &mut offsets);
     let start = played::start_held(table, events);
-    let played = played::play(table, events, &offsets, run, start);
-    played.answer?;
+    played::play(table, events, &offsets, run, start)?;
     lift_played(table, events, &markers, &users, &before, &offsets, run, out)
 }

@@ -15,10 +15,10 @@ once_only-requires c =
       once_len = refl;
     }
 
-pub returns-in-At : goal.returns-in-At
-returns-in-At c =
+pub returns-in-Some : goal.returns-in-Some
+returns-in-Some c =
     record {
-      answer = c.refused.ensures ∙ lift_again _ _ c.requires.walkable.plays _ _ c.walk-walked.ensures _ _ c.in-At.is;
+      answer = c.refused.ensures ∙ lift_again _ _ c.requires.walkable.plays _ _ c.walk-walked.ensures _ _ c.in-Some.is;
       after = written_refused _ _ _ _ c.refused.ensures;
     }
 
