@@ -1,7 +1,7 @@
 // A run of a table looked at as a whole: what first marked each persistent condition, which events occurred, and the first repeat.
 #![tactic(auto)]
 
-ghost use Rattle.std.specs.Prelude.{◌≡◌, ◌<◌, replicate};
+ghost use Rattle.std.specs.Prelude.{◌≡◌, ◌<◌, false, replicate};
 ghost use Rattle.words.specs.Words.{words};
 ghost use Rattle.table.specs.Decoded.{net_of};
 ghost use Rattle.repeats.specs.Repeats.{Once};
@@ -58,11 +58,11 @@ pub fn walk<'a>(
     offsets: &'a [usize],
     once: &'a [u8],
     run: &'a [u16],
-    seen: &mut [u8],
+    seen: &mut [bool; 256],
 ) -> Walked
     requires walkable { Walkable table.now events offsets.now run.now }
     requires once { Once (net_of table.now) once.now }
-    requires seen_value { seen.old ≡ replicate 256 0 }
+    requires seen_value { seen.old ≡ replicate 256 false }
     ensures { Walks (net_of table.now) run.now result seen.new }
 {
     let start = records::marking_at(table, table::offset(table, events as u16));
@@ -73,12 +73,12 @@ pub fn walk<'a>(
     while k < run.len() {
         let e = run[k];
         k = k + 1;
-        if seen[e as usize] == 1 {
+        if seen[e as usize] {
             if once[e as usize] == 1 {
                 repeat = repeat.or(Some(k - 1));
             }
         } else {
-            seen[e as usize] = 1;
+            seen[e as usize] = true;
             let post = tally::list_at(table, offsets[e as usize], true);
             firsts = marked(firsts, table, post, Marker::ByEvent(TableEvent(e)));
         }

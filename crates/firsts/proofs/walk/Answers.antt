@@ -1,9 +1,7 @@
 -- `firsts::walk` meets its contract.
 use borrow.Author.Tests.{eq-eqb, ne_eqb}
 use native.Mathlib.Omega.{arith}
-use Prim.Native.Nat.{ℕ}
-use lib.ListN.{length, length-replicate}
-use mathlib.Core.Path.{refl, ◌∙◌, sym, ap}
+use mathlib.Core.Path.{refl}
 use mathlib.Core.Bool.{true, false}
 use Rattle.table.specs.Decoded.{net_of}
 use Rattle.firsts.specs.Firsts.{no_slots}
@@ -34,10 +32,10 @@ overflow_cast-e c =
 
 pub bounds-seen-e : goal.bounds-seen-e
 bounds-seen-e c =
-    omega (arith, step_low _ _ _ _ c.requires.walkable _ _ _ _ c.loop-k.invariant c.loop-k-test.true, c.loop-k.invariant.seens.size)
+    omega (arith, step_low _ _ _ _ c.requires.walkable _ _ _ _ c.loop-k.invariant c.loop-k-test.true)
 
-pub overflow_cast-e-then-seen-e-eq1 : goal.overflow_cast-e-then-seen-e-eq1
-overflow_cast-e-then-seen-e-eq1 c =
+pub overflow_cast-e-then-seen-e : goal.overflow_cast-e-then-seen-e
+overflow_cast-e-then-seen-e c =
     omega (arith, step_low _ _ _ _ c.requires.walkable _ _ _ _ c.loop-k.invariant c.loop-k-test.true)
 
 pub bounds-once-e : goal.bounds-once-e
@@ -48,24 +46,24 @@ pub loop-k-preserved-then-once-e-eq1 : goal.loop-k-preserved-then-once-e-eq1
 loop-k-preserved-then-once-e-eq1 c =
     let low = step_low _ _ _ _ c.requires.walkable _ _ _ _ c.loop-k.invariant c.loop-k-test.true in
     let m = step_others _ _ _ _ c.requires.walkable _ _ _ _ c.loop-k.invariant c.loop-k-test.true _ c.requires.once true (eq-eqb _ 1 c.if-once-e-eq1.true) in
-    rw c.or-repeat.ensures (along_repeat _ _ _ _ _ _ c.loop-k.invariant c.loop-k-test.true _ refl low c.if-seen-e-eq1.true m _ (omega arith))
+    rw c.or-repeat.ensures (along_repeat _ _ _ _ _ _ c.loop-k.invariant c.loop-k-test.true _ refl low c.if-seen-e.true m _ (omega arith))
 
 pub loop-k-preserved-else-once-e-eq1 : goal.loop-k-preserved-else-once-e-eq1
 loop-k-preserved-else-once-e-eq1 c =
     let low = step_low _ _ _ _ c.requires.walkable _ _ _ _ c.loop-k.invariant c.loop-k-test.true in
     let m = step_others _ _ _ _ c.requires.walkable _ _ _ _ c.loop-k.invariant c.loop-k-test.true _ c.requires.once false (ne_eqb _ 1 c.if-once-e-eq1.false) in
-    along_again _ _ _ _ _ _ c.loop-k.invariant c.loop-k-test.true _ refl low c.if-seen-e-eq1.true m
+    along_again _ _ _ _ _ _ c.loop-k.invariant c.loop-k-test.true _ refl low c.if-seen-e.true m
 
 pub overflow_cast-seen : goal.overflow_cast-seen
 overflow_cast-seen c =
     omega (arith, step_low _ _ _ _ c.requires.walkable _ _ _ _ c.loop-k.invariant c.loop-k-test.true)
 
-pub bounds-seen-e-else-seen-e-eq1 : goal.bounds-seen-e-else-seen-e-eq1
-bounds-seen-e-else-seen-e-eq1 c =
-    omega (arith, step_low _ _ _ _ c.requires.walkable _ _ _ _ c.loop-k.invariant c.loop-k-test.true, c.loop-k.invariant.seens.size)
+pub bounds-seen-e-else-seen-e : goal.bounds-seen-e-else-seen-e
+bounds-seen-e-else-seen-e c =
+    omega (arith, step_low _ _ _ _ c.requires.walkable _ _ _ _ c.loop-k.invariant c.loop-k-test.true)
 
-pub overflow_cast-e-else-seen-e-eq1 : goal.overflow_cast-e-else-seen-e-eq1
-overflow_cast-e-else-seen-e-eq1 c =
+pub overflow_cast-e-else-seen-e : goal.overflow_cast-e-else-seen-e
+overflow_cast-e-else-seen-e c =
     omega (arith, step_low _ _ _ _ c.requires.walkable _ _ _ _ c.loop-k.invariant c.loop-k-test.true)
 
 pub offset_bounds-offsets-e : goal.offset_bounds-offsets-e
@@ -76,8 +74,8 @@ pub bounds-offsets-e : goal.bounds-offsets-e
 bounds-offsets-e c =
     step_inside _ _ _ _ c.requires.walkable _ _ _ _ c.loop-k.invariant c.loop-k-test.true
 
-pub marked-firsts-requires-else-seen-e-eq1 : goal.marked-firsts-requires-else-seen-e-eq1
-marked-firsts-requires-else-seen-e-eq1 c =
+pub marked-firsts-requires-else-seen-e : goal.marked-firsts-requires-else-seen-e
+marked-firsts-requires-else-seen-e c =
     let e = step_event _ _ _ _ c.requires.walkable _ _ _ _ c.loop-k.invariant c.loop-k-test.true in
     let o = step_offset _ _ _ _ c.requires.walkable _ _ _ _ c.loop-k.invariant c.loop-k-test.true in
     post_inside _ _ c.requires.walkable.judged _ e _ o _ c.list_at-post.ensures
@@ -88,13 +86,9 @@ loop-k-preserved c =
     let low = step_low _ _ _ _ c.requires.walkable _ _ _ _ c.loop-k.invariant c.loop-k-test.true in
     let e = step_event _ _ _ _ c.requires.walkable _ _ _ _ c.loop-k.invariant c.loop-k-test.true in
     let o = step_offset _ _ _ _ c.requires.walkable _ _ _ _ c.loop-k.invariant c.loop-k-test.true in
-    let long = post_length _ _ j _ e _ o _ c.list_at-post.ensures _ _ c.loop-k.invariant.firsts.size c.marked-firsts-else-seen-e-eq1.ensures in
-    let first = post_first _ _ j _ e _ o _ c.list_at-post.ensures _ _ c.loop-k.invariant.firsts.size c.marked-firsts-else-seen-e-eq1.ensures in
-    along_new _ _ _ _ _ _ c.loop-k.invariant c.loop-k-test.true _ refl low c.if-seen-e-eq1.false _ long first
-
-pub shape_of-seen : goal.shape_of-seen
-shape_of-seen c =
-    c.loop-k.invariant.seens.size ∙ sym (ap length c.requires.seen_value ∙ length-replicate {A = ℕ} 256 0)
+    let long = post_length _ _ j _ e _ o _ c.list_at-post.ensures _ _ c.loop-k.invariant.firsts.size c.marked-firsts-else-seen-e.ensures in
+    let first = post_first _ _ j _ e _ o _ c.list_at-post.ensures _ _ c.loop-k.invariant.firsts.size c.marked-firsts-else-seen-e.ensures in
+    along_new _ _ _ _ _ _ c.loop-k.invariant c.loop-k-test.true _ refl low c.if-seen-e.false _ long first
 
 pub returns : goal.returns
 returns c =
