@@ -124,7 +124,8 @@ fn write_step<'a>(
 {
     let event = number_at(steps, k);
     let unfolded = number_at(lifted, k);
-    played::step_event(table, events, offsets, event, marking);
+    // What is stopped leaves the marking as it was, and its line is written all the same.
+    let _ = played::step_event(table, events, offsets, event, marking);
     put(
         Piece::Step(k, event as usize, unfolded as usize),
         &marking[..],

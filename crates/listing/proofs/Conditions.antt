@@ -8,9 +8,8 @@ use denote.Laws.{Is}
 use denote.Enum.Declared.{row}
 use denote.Enum.Laws.{val, owed}
 use Rattle.refusal.specs.Answer.{By}
-use Rattle.std.specs.Prelude.{None, Some}
-use Rattle.refusal.specs.declared.Condition.TheVariants.{Table, Unfolded}
-use Rattle.refusal.specs.Answer.{condition_of}
+use Rattle.std.specs.Prelude.{None, Some, IfSome}
+use Rattle.refusal.specs.Answer.{condition_of, condition_number}
 use Rattle.spelling.proofs.Decimal.{twenty}
 use Rattle.listing.specs.Text.{by_words}
 
@@ -21,3 +20,8 @@ condition_short b h = rw length-append (omega (arith, twenty b (omega arith)))
 none_short : length (by_words none) ≤ 24
 unfolding by_words
 none_short = omega arith
+
+-- The words for what stopped a step have at most twenty-four bytes, where its number has two.
+pub by_short : (by : By) → IfSome by (λ condition. condition_number condition < 65536) → length (by_words (condition_of by)) ≤ 24
+by_short None h = none_short
+by_short (Some condition) h = condition_short (condition_number condition) h

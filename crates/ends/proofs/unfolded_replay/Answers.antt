@@ -25,7 +25,7 @@ replay_lifted-requires c =
 
 pub returns-in_err-replay_lifted : goal.returns-in_err-replay_lifted
 returns-in_err-replay_lifted c =
-    let same : c.from_residual.result ≡ c.replay_lifted.result = search rules in
+    let same : c.from_residual-in_err-replay_lifted.result ≡ c.replay_lifted.result = search rules in
     let s = c.args.table.now in
     let j = judged_is s c.args.lifted.now c.args.end.now _ c.lay_out_run.ensures.answer _ c.in_ok-events.was in
     let whole = replay_stopped s c.args.lifted.now c.args.end.now _ c.lay_out_run.ensures.answer _ c.in_ok-events.was j _ _ _ c.replay_lifted.ensures c.in_err-replay_lifted.was in

@@ -14,7 +14,7 @@ returns-in_err-count c =
 pub returns-in_err-unfolded : goal.returns-in_err-unfolded
 returns-in_err-unfolded c =
     let read = c.read_files in
-    let told : c.from_residual.result ≡ Err c.in_err-unfolded.field-0.0 = search rules in
+    let told : c.from_residual-in_err-unfolded.result ≡ Err c.in_err-unfolded.field-0.0 = search rules in
     run_refused c.args.net.now c.args.run.now c.args.steps.now read.new.steps read.result c.requires.many read.ensures.answer read.ensures.after _ c.in_ok-count.was c.reach_end.result c.reach_end.new.lifted c.reach_end.new.end c.reach_end.ensures c.in_err-unfolded.was _ told _ _
 
 pub returns-in_err-events : goal.returns-in_err-events

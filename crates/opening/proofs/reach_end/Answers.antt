@@ -7,7 +7,7 @@ use Rattle.opening.proofs.reach_end.Goals as goal
 pub returns-in_err-count : goal.returns-in_err-count
 returns-in_err-count c =
     let same : c.from_residual.result ≡ c.lift.result = search rules in
-    same ∙ reach_refused c.args.table.now c.args.run.now c.args.lifted.now c.lift.new.out c.lift.result c.requires.0 c.lift.ensures.answer c.lift.ensures.after c.in_err-count.was _
+    rw same (reach_refused c.args.table.now c.args.run.now c.args.lifted.now c.lift.new.out c.lift.result c.requires.0 c.lift.ensures.answer c.lift.ensures.after c.in_err-count.was _)
 
 pub returns : goal.returns
 returns c =

@@ -9,7 +9,7 @@ use Rattle.opening.proofs.set_up.Goals as goal
 pub returns-in_err-events : goal.returns-in_err-events
 returns-in_err-events c =
     let same : c.from_residual.result ≡ c.judge.result = search rules in
-    same ∙ set_up_refused c.args.table.now c.judge.result _ _ c.judge.ensures c.in_err-events.was
+    rw same (set_up_refused c.args.table.now c.judge.result _ _ c.judge.ensures c.in_err-events.was)
 
 pub fill-requires : goal.fill-requires
 fill-requires c =
