@@ -2,16 +2,13 @@
 use Prim.Native.Nat.{ℕ, zero, suc, ◌+◌, ◌*◌, ◌/◌, ◌%◌, ◌≤◌, ◌<◌}
 use native.Mathlib.Decide.{dec_le}
 use native.Mathlib.Omega.{arith}
-use mathlib.Core.Path.{◌≡◌, refl, sym}
+use mathlib.Core.Path.{◌≡◌, refl}
 use mathlib.Core.Bool.{Bool, true, false}
-use mathlib.Core.List.{List, [], ◌∷◌, ◌++◌}
+use mathlib.Core.List.{[], ◌∷◌, ◌++◌}
 use borrow.Author.Tests.{lt-ltb, le-ltb, ltb-false}
 use lib.Dec.{ltb}
 use lib.ListN.{length, length-append}
-use lib.Seq.{sets}
 use Rattle.spelling.specs.Decimal.{digits, decimal}
-use Rattle.spelling.specs.Puts.{Put}
-use Rattle.spelling.proofs.Texts.{sets_last}
 
 -- As many digits as a number counts are enough, and more change nothing.
 enough : (j k n : ℕ) → n < j → n < k → digits j n ≡ digits k n
@@ -39,14 +36,6 @@ one_digit_long n h = rw (one_digit n h)
 pub last_digit_long : (n : ℕ) → 9 < n → length (decimal n) ≡ length (decimal (n / 10)) + 1
 last_digit_long n h = rw (last_digit n h, length-append)
 
--- There is a digit.
-pub long : (n : ℕ) → 1 ≤ length (decimal n)
-long n = go (dec_le n 9)
-  where
-    go : Dec (n ≤ 9) → 1 ≤ length (decimal n)
-    go (yes p) = omega (arith, one_digit_long n (omega arith))
-    go (no p) = omega (arith, last_digit_long n (omega arith))
-
 -- Ten times the numbers have at most one digit more.
 abbrev Below : ℕ → ℕ → Type 0
 Below bound digits = (n : ℕ) → n < bound → length (decimal n) ≤ digits
@@ -68,20 +57,3 @@ twenty =
     more _ 19 (more _ 18 (more _ 17 (more _ 16 (more _ 15 (more _ 14 (more _ 13 (more _ 12 (more _ 11 (more _ 10
     (more _ 9 (more _ 8 (more _ 7 (more _ 6 (more _ 5 (more _ 4 (more _ 3 (more _ 2 (more _ 1
     (λ n h. omega (arith, one_digit_long n h))))))))))))))))))))
-
--- The last digit is put, and those of the tenth are left.
-pub digit_put :
-    (out : List ℕ) (at last n : ℕ) {r : ℕ} {after : List ℕ}
-    → 9 < n → last + 1 ≡ at + length (decimal n) → Put out last ((48 + n % 10) ∷ []) r after
-    → (last ≡ at + length (decimal (n / 10))) × (sets after at (decimal (n / 10)) ≡ sets out at (decimal n))
-digit_put out at last n h e p =
-    let here : last ≡ at + length (decimal (n / 10)) = omega (arith, last_digit_long n h) in
-    (here, rw (p.stored, here, last_digit n h) (sym (sets_last (decimal (n / 10)) out (48 + n % 10) at)))
-
-pub digit_left :
-    (out : List ℕ) (at last n : ℕ) {r : ℕ} {after : List ℕ}
-    → n < 10 → last + 1 ≡ at + length (decimal n) → Put out last ((48 + n) ∷ []) r after
-    → after ≡ sets out at (decimal n)
-digit_left out at last n h e p =
-    let here : last ≡ at = omega (arith, one_digit_long n h) in
-    rw (p.stored, here, one_digit n h)

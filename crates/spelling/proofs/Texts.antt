@@ -1,19 +1,12 @@
 -- Texts put at a place of lent bytes, one after the other, and a whole one as the answer.
-use Prim.Native.Nat.{ℕ, suc, ◌+◌, ◌≤◌, ◌<◌}
-use native.Mathlib.Nat.{add-zero, add-suc, suc-add}
+use Prim.Native.Nat.{ℕ, ◌+◌, ◌≤◌, ◌<◌}
 use native.Mathlib.Omega.{arith}
 use mathlib.Core.Path.{◌≡◌, refl, sym, ◌∙◌, ap, subst}
 use mathlib.Core.List.{List, [], ◌∷◌, ◌++◌}
 use lib.ListN.{length, length-append, get_or, drop, set}
-use lib.Seq.{sets, length-sets, set_comm, set_out}
+use lib.Seq.{sets, length-sets, set_out}
 use Rattle.lists.proofs.Stored.{stored_whole, store_next, store_end, store_both}
 use Rattle.spelling.specs.Puts.{Put, Puts}
-
--- A last byte may be stored before those in front of it.
-pub sets_last : (x out : List ℕ) (b at : ℕ) → sets out at (x ++ (b ∷ [])) ≡ sets (set out (at + length x) b) at x
-sets_last [] out b at = rw add-zero
-sets_last (a ∷ x) out b at =
-    rw (add-suc, ← suc-add, set_comm out (suc at + length x) at b a (λ e. omega arith)) (sets_last x (set out at a) b (suc at))
 
 pub byte_out : (out : List ℕ) (at b : ℕ) → length out ≤ at → Put out at (b ∷ []) (at + 1) out
 byte_out out at b h = record { told = refl; stored = sym (set_out out at b h) }

@@ -18,34 +18,16 @@ pub fn put(out: &mut [u8], at: usize, byte: u8) -> usize
     at + 1
 }
 
-// How many digits a number has.
-fn width(n: usize) -> usize
-    ensures { result ≡ length (decimal n) }
-{
-    let mut count: usize = 1;
-    let mut left = n;
-    while 9 < left {
-        left = left / 10;
-        count = count + 1;
-    }
-    count
-}
-
-// A number put at a place, its last digit first.
+// A number put at a place, its last digit after the digits of its tenth.
 pub fn put_number(out: &mut [u8], at: usize, n: usize) -> usize
     requires { at + 20 ≤ farthest }
     ensures { Put out.old at (decimal n) result out.new }
 {
-    let end = at + width(n);
-    let mut last = end - 1;
-    let mut left = n;
-    while 9 < left {
-        put(out, last, 48 + (left % 10) as u8);
-        last = last - 1;
-        left = left / 10;
+    if n < 10 {
+        return put(out, at, b'0' + n as u8);
     }
-    put(out, last, 48 + left as u8);
-    end
+    let last = put_number(out, at, n / 10);
+    put(out, last, b'0' + (n % 10) as u8)
 }
 
 // Bytes put at a place.
@@ -53,10 +35,8 @@ pub fn put_text(out: &mut [u8], at: usize, text: &[u8]) -> usize
     requires { at + length text.now ≤ farthest }
     ensures { Put out.old at text.now result out.new }
 {
-    let mut k: usize = 0;
-    while k < text.len() {
-        put(out, at + k, text[k]);
-        k = k + 1;
+    for (k, byte) in text.iter().enumerate() {
+        put(out, at + k, *byte);
     }
-    at + k
+    at + text.len()
 }

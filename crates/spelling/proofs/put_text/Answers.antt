@@ -6,17 +6,16 @@ use Rattle.spelling.proofs.Texts.{put_long, next_byte, no_byte}
 use Rattle.spelling.proofs.put_text.Goals as goal
 
 pub loop-k-init : goal.loop-k-init
-loop-k-init c =
-    (omega arith, refl, rw add-zero)
+loop-k-init c = (refl, rw add-zero)
 
 pub loop-k-preserved : goal.loop-k-preserved
 loop-k-preserved c =
     let here = next_byte c.args.text.now c.loop-k.out c.args.at c.loop-k.k c.loop-k-test.true in
-    (omega arith, put_long c.put.ensures ∙ c.loop-k.invariant.1, rw c.put.ensures.stored (sym here ∙ c.loop-k.invariant.2))
+    (put_long c.put.ensures ∙ c.loop-k.invariant.0, rw c.put.ensures.stored (sym here ∙ c.loop-k.invariant.1))
 
 pub returns : goal.returns
 returns c =
     record {
-      told = omega (arith, c.loop-k.invariant.0, c.loop-k-test.false);
-      stored = sym (no_byte c.args.text.now c.loop-k.out c.args.at c.loop-k.k c.loop-k-test.false) ∙ c.loop-k.invariant.2;
+      told = omega arith;
+      stored = sym (no_byte c.args.text.now c.loop-k.out c.args.at c.loop-k.k c.loop-k-test.false) ∙ c.loop-k.invariant.1;
     }
