@@ -7,4 +7,5 @@ use Rattle.words.specs.Words.{bytes_of}
 use Rattle.writing.proofs.put_steps.Given as goal
 
 abbrev pub invariant-loop-k : goal.invariant-loop-k
-invariant-loop-k l = (length l.bytes ≡ length l.initial.bytes) × (sets l.bytes (4 + 2 * l.k) (bytes_of (drop l.k l.run)) ≡ sets l.initial.bytes 4 (bytes_of l.run))
+invariant-loop-k l = (length l.bytes ≡ length l.initial.bytes)
+    × (sets l.bytes (4 + 2 * l.k) (bytes_of (drop l.k l.run)) ≡ sets l.initial.bytes 4 (bytes_of l.run))
