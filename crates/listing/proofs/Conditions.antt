@@ -2,11 +2,7 @@
 use Prim.Native.Nat.{ℕ, ◌≤◌, ◌<◌}
 use native.Mathlib.Omega.{arith}
 use mathlib.Core.Option.{none, some}
-use mathlib.Core.List.{[], ◌∷◌}
 use lib.ListN.{length, length-append}
-use denote.Laws.{Is}
-use denote.Enum.Declared.{row}
-use denote.Enum.Laws.{val, owed}
 use Rattle.refusal.specs.Answer.{By}
 use Rattle.std.specs.Prelude.{None, Some, IfSome}
 use Rattle.refusal.specs.Answer.{condition_of, condition_number}

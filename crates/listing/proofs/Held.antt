@@ -1,14 +1,17 @@
 -- The conditions that hold among those from one on, walked one after the other, and put together from parts.
 use Prim.Native.Nat.{ℕ, zero, suc, ◌+◌, ◌-◌, ◌≤◌, ◌<◌}
 use native.Mathlib.Numerals.{add-one}
-use native.Mathlib.Nat.{add-zero, zero-add}
+use native.Mathlib.Nat.{add-zero, zero-add, sub-zero}
 use native.Mathlib.Omega.{arith}
-use mathlib.Core.Path.{◌≡◌, refl}
+use mathlib.Core.Path.{◌≡◌, refl, ◌∙◌}
 use mathlib.Core.Bool.{Bool, true, false, cond}
 use mathlib.Core.List.{List, [], ◌∷◌, ◌++◌, append-nil}
 use borrow.Author.Tests.{eq-eqb, ne_eqb, lt-ltb, le-ltb}
 use lib.Dec.{ltb}
 use lib.ListN.{length, get_or}
+use Rattle.std.specs.Prelude.{Option, Some, None, MatchOption}
+use Rattle.std.specs.List.{AllWithin, HoldsAt}
+use Rattle.std.specs.Option.{unwrap_or}
 use Rattle.lists.specs.Lists.{keep, count}
 use Rattle.model.specs.Net.{Marking}
 use Rattle.model.specs.Lent.{marking}
@@ -115,3 +118,31 @@ first_least m (suc c) b = go (m b) refl (first_least m c (b + 1))
 pub first_below : (l : List ℕ) → first_in l ≤ length l
 unfolding first_in held_in
 first_below l = rw zero-add at (first_least (marking l) (length l) 0)
+
+-- None of c conditions holds, so that what holds from the first of them on holds after them.
+skips_all :
+    (m : Marking) (c b upto : ℕ)
+    → b + c ≤ upto
+    → ((k : ℕ) → b ≤ k → k < b + c → m k ≡ false)
+    → holding m b (upto - b) ≡ holding m (b + c) (upto - (b + c))
+skips_all m zero b upto h none = rw add-zero
+skips_all m (suc c) b upto h none =
+    let next : b + suc c ≡ b + 1 + c = omega arith in
+    rw next
+    (skips_first m b upto (omega arith) (none b (omega arith) (omega arith))
+    ∙ skips_all m c (b + 1) upto (omega arith) (λ k low high. none k (omega arith) (omega arith)))
+
+-- The place of the first byte 1, the number of bytes where there is none, is the first condition that holds.
+pub first_found :
+    (l : List ℕ) (r : Option ℕ)
+    → MatchOption r (AllWithin (λ x. x ≡ 1 → ⊥) l 0 (length l)) (λ b. (b < length l) × HoldsAt (λ x. x ≡ 1) l b × AllWithin (λ x. x ≡ 1 → ⊥) l 0 b)
+    → unwrap_or r (length l) ≡ first_in l
+unfolding first_in held_in
+first_found l None none =
+    let skipped = skips_all (marking l) (length l) 0 (length l) (omega arith) (λ k low high. byte_fails l k (none k 0 low (omega arith))) in
+    let all = rw (zero-add, sub-zero) at skipped in
+    rw (all, none_left (marking l) (length l) (length l) (omega arith))
+first_found l (Some b) (low, here, none) =
+    let skipped = skips_all (marking l) b 0 (length l) (omega arith) (λ k least high. byte_fails l k (none k 0 least (omega arith))) in
+    let all = rw (zero-add, sub-zero) at skipped in
+    rw (all, holds_first (marking l) b (length l) low (byte_holds l b (here 0)))

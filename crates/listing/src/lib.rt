@@ -55,10 +55,8 @@ fn put_more(out: &mut [u8], at: usize, state: &[u8], from: usize, upto: usize) -
     ensures { Put out.old at (commas (holding (marking state.now) from (upto - from))) result out.new }
 {
     let mut next = at;
-    let mut b = from;
-    while b < upto {
+    for b in from..upto {
         next = put_held(out, next, state, b);
-        b = b + 1;
     }
     next
 }
@@ -67,14 +65,8 @@ fn put_more(out: &mut [u8], at: usize, state: &[u8], from: usize, upto: usize) -
 pub fn first_held(marking: &[u8]) -> usize
     ensures { result ≡ first_in marking.now }
 {
-    let mut b: usize = 0;
-    while b < marking.len() {
-        if marking[b] == 1 {
-            return b;
-        }
-        b = b + 1;
-    }
-    b
+    let first = marking.iter().position(|byte| *byte == 1);
+    first.unwrap_or(marking.len())
 }
 
 // Where the piece after the one from a condition on begins, the length of the marking after the last.

@@ -1,31 +1,14 @@
--- What holds from where the walk is on is what holds at all.
-use native.Mathlib.Nat.{sub-zero}
-use native.Mathlib.Omega.{arith}
-use mathlib.Core.Path.{◌∙◌}
-use lib.ListN.{length}
-use Rattle.listing.specs.Calls.{first_in, held_in}
-use Rattle.listing.proofs.Held.{byte_holds, byte_fails, holds_first, skips_first, none_left}
-use Rattle.model.specs.Lent as lent
+-- The place of the first byte 1 is the first condition that holds.
+use borrow.Author.Tests.{tests}
+use mathlib.Core.Path.{◌≡◌, ◌∙◌}
+use Rattle.std.proofs.Common.{rules}
+use Rattle.std.proofs.lemmas.Iterator.{YieldsList-from_slice, IsFirst-from_position}
+use Rattle.listing.proofs.Held.{first_found}
 use Rattle.listing.proofs.first_held.Goals as goal
 
-pub loop-b-init : goal.loop-b-init
-unfolding held_in
-loop-b-init c =
-    (omega arith, rw sub-zero)
-
-pub returns-then-marking-b-eq1 : goal.returns-then-marking-b-eq1
-unfolding first_in
-returns-then-marking-b-eq1 c =
-    let found = holds_first (lent.marking c.args.marking.now) c.loop-b.b (length c.args.marking.now) c.loop-b-test.true (byte_holds c.args.marking.now c.loop-b.b c.if-marking-b-eq1.true) in
-    rw (c.loop-b.invariant.1, found)
-
-pub loop-b-preserved : goal.loop-b-preserved
-loop-b-preserved c =
-    let found = skips_first (lent.marking c.args.marking.now) c.loop-b.b (length c.args.marking.now) c.loop-b-test.true (byte_fails c.args.marking.now c.loop-b.b c.if-marking-b-eq1.false) in
-    (omega arith, c.loop-b.invariant.1 ∙ found)
-
 pub returns : goal.returns
-unfolding first_in
 returns c =
-    let none = none_left (lent.marking c.args.marking.now) c.loop-b.b (length c.args.marking.now) c.loop-b-test.false in
-    rw (c.loop-b.invariant.1, none) (omega (arith, c.loop-b.invariant.0, c.loop-b-test.false))
+    let found = c.position-first.result in
+    c.unwrap_or.ensures ∙ first_found c.args.marking.now found
+    (IsFirst-from_position c.position-first.new.self _ found (λ x. x ≡ 1) (λ x. x ≡ 1 → ⊥) c.position-first.ensures.ran
+    (YieldsList-from_slice c.args.marking.now c.iter.ensures.rest) (λ x q k. search (rules, tests)) (λ x q k. search (rules, tests)))

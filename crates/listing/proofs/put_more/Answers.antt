@@ -28,7 +28,13 @@ loop-b-preserved c =
     let next : ℕ = c.loop-b.next in
     let apart = first_apart m b upto c.loop-b-test.true in
     let (place, stored) = goes_on (commas (holding m (b + 1) (upto - (b + 1)))) c.put_held-next.ensures in
-    (omega (arith, c.loop-b.invariant.0, c.put_held-next.ensures.told, one_short m b (omega arith)), put_long c.put_held-next.ensures ∙ c.loop-b.invariant.1, place ∙ ap (λ (t : List ℕ). next + length t) (sym apart) ∙ c.loop-b.invariant.2, stored ∙ ap (λ (t : List ℕ). sets c.loop-b.out next t) (sym apart) ∙ c.loop-b.invariant.3)
+    let kept = c.loop-b.invariant in
+    let put = c.put_held-next.ensures in (
+      omega (arith, kept.0, put.told, one_short m b (omega arith)),
+      put_long put ∙ kept.1,
+      place ∙ ap (λ (t : List ℕ). next + length t) (sym apart) ∙ kept.2,
+      stored ∙ ap (λ (t : List ℕ). sets c.loop-b.out next t) (sym apart) ∙ kept.3,
+    )
 
 pub shape_of-out : goal.shape_of-out
 shape_of-out c =

@@ -1,4 +1,4 @@
--- What each turn of a loop in `listing::put_more` keeps, and what falls.
+-- The text of what is left, put after what is there, is the whole text.
 use Prim.Native.Nat.{◌+◌, ◌-◌, ◌*◌, ◌≤◌}
 use mathlib.Core.Path.{◌≡◌}
 use lib.ListN.{length}
@@ -13,6 +13,3 @@ invariant-loop-b l = (l.next + 21 * (l.upto - l.b) ≤ farthest)
     × (length l.out ≡ length l.initial.out)
     × (l.next + length (commas (holding (marking l.state) l.b (l.upto - l.b))) ≡ l.at + length (commas (holding (marking l.state) l.from (l.upto - l.from))))
     × (sets l.out l.next (commas (holding (marking l.state) l.b (l.upto - l.b))) ≡ sets l.initial.out l.at (commas (holding (marking l.state) l.from (l.upto - l.from))))
-
-abbrev pub decreases-loop-b : goal.decreases-loop-b
-decreases-loop-b l = l.upto - l.b
