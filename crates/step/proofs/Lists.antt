@@ -2,7 +2,7 @@
 use Prim.Native.Nat.{ℕ, ◌+◌, ◌-◌, ◌≤◌, ◌<◌}
 use mathlib.Core.Path.{◌≡◌, sym, ◌∙◌}
 use mathlib.Core.Bool.{Bool, true, false}
-use mathlib.Core.List.{List, ◌∷◌}
+use mathlib.Core.List.{List, [], ◌∷◌}
 use mathlib.Core.Option.{some, none}
 use lib.ListN.{length, get_or, drop, set}
 use lib.Seq.{set_out}
@@ -23,18 +23,20 @@ module _ (s : List ℕ) (i b : ℕ) (h : 1 < length s - i) (e : b ≡ word_at s 
   pub failing_on : (f : ℕ → Bool) → f b ≡ true → failing f (words (drop i s)) ≡ failing f (words (drop (i + 2) s))
   failing_on f p = rw (next, p)
 
-  pub set_on : (kept : List ℕ) (v : ℕ) (l : List ℕ) → set_all kept v (words (drop i s)) l ≡ set_all kept v (words (drop (i + 2) s)) (set_one kept v b l)
-  unfolding set_all
-  set_on kept v l = rw next
-
 -- no condition left
 module _ (s : List ℕ) (i : ℕ) (h : length s - i ≤ 1) where
   pub failing_end : (f : ℕ → Bool) → failing f (words (drop i s)) ≡ none
   failing_end f = rw (words_end s i h)
 
-  pub set_end : (kept : List ℕ) (v : ℕ) (l : List ℕ) → set_all kept v (words (drop i s)) l ≡ l
+-- bytes set in turn, of which b is the next one, and of which none is left
+module _ (kept : List ℕ) (v : ℕ) (left l : List ℕ) where
+  pub set_next : (b : ℕ) (rest : List ℕ) → left ≡ b ∷ rest → set_all kept v left l ≡ set_all kept v rest (set_one kept v b l)
   unfolding set_all
-  set_end kept v l = rw (words_end s i h)
+  set_next b rest next = rw next
+
+  pub set_end : left ≡ [] → set_all kept v left l ≡ l
+  unfolding set_all
+  set_end empty = rw empty
 
 -- one condition, with the byte x that tells whether it is kept
 module _ (kept l : List ℕ) (v b x : ℕ) (e : x ≡ get_or kept b 0) where

@@ -1,7 +1,7 @@
 -- A step on words is the model's: what its tests find, and what it leaves.
 use Prim.Native.Nat.{ℕ, zero, suc, ◌+◌, ◌-◌, ◌≤◌, ◌<◌, zero-le}
 use native.Mathlib.Decide.{dec_le}
-use native.Mathlib.Nat.{lt_of_not-le}
+use native.Mathlib.Nat.{lt_of_not-le, add-zero, zero-add}
 use native.Mathlib.Numerals.{add-one}
 use native.Mathlib.Omega.{arith}
 use mathlib.Core.Path.{◌≡◌, refl, sym, ap, ap₂, ◌∙◌, fun_ext}
@@ -26,7 +26,9 @@ use Rattle.records.specs.Records.{old_rule, flags, pre_part, post_part}
 use Rattle.held.specs.Held.{held_in, tabled}
 use Rattle.held.proofs.Words.{held_past}
 use Rattle.stopping.specs.Table.{Step}
-use Rattle.std.specs.Prelude.{Ok, Err}
+use Rattle.std.specs.Prelude.{Ok, Err, None, Some, MatchOption}
+use Rattle.std.specs.Prelude.{Option as Found}
+use Rattle.std.specs.Option.{option_map}
 use Rattle.stopping.specs.Causes.{goes}
 use Rattle.stopping.specs.Table.{Cause}
 use Rattle.step.specs.Steps.{Failing}
@@ -61,6 +63,28 @@ module _ (m : Marking) where
     where
       z : n - b ≡ 0
       z = omega arith
+
+  -- conditions that do not hold are passed over
+  lowest_past : (n c b : ℕ) → b + c ≤ n → ((k : ℕ) → b ≤ k → k < b + c → m k ≡ false) → lowest_from n b ≡ lowest_from n (b + c)
+  lowest_past n zero b h off = rw add-zero
+  lowest_past n (suc c) b h off =
+      let next : b + suc c ≡ b + 1 + c = omega arith in
+      rw next
+      (lowest_on n b (omega arith) (off b (omega arith) (omega arith))
+      ∙ lowest_past n c (b + 1) (omega arith) (λ k low high. off k (omega arith) (omega arith)))
+
+  -- the one that is found is the lowest, and there is none where none is found
+  abbrev pub FoundBelow : ℕ → Found ℕ → Type 0
+  FoundBelow n r = MatchOption r ((k : ℕ) → 0 ≤ k → k < n → m k ≡ false)
+      (λ b. (0 ≤ b) × (b < n) × (m b ≡ true) × ((k : ℕ) → 0 ≤ k → k < b → m k ≡ false))
+
+  pub lowest_found : (n : ℕ) (r : Found ℕ) → FoundBelow n r → option_map (λ b. record { 0 = b }) r ≡ failing_of (lowest n m)
+  lowest_found n None off =
+      let past = rw zero-add at (lowest_past n n 0 (omega arith) (λ k low high. off k low (omega arith))) in
+      sym (ap failing_of (lowest_from_lem n ∙ past ∙ lowest_end n n (omega arith)))
+  lowest_found n (Some b) (least, below, on, off) =
+      let past = rw zero-add at (lowest_past n b 0 (omega arith) (λ k low high. off k low (omega arith))) in
+      sym (ap failing_of (lowest_from_lem n ∙ past ∙ lowest_here n b below on))
 
   -- where nothing holds there is none
   pub lowest_none : (n : ℕ) → ((b : ℕ) → m b ≡ false) → lowest n m ≡ none

@@ -33,10 +33,8 @@ fn set_one(kept: &[u8], b: usize, value: u8, state: &mut [u8])
 pub fn set_all<'a>(kept: &'a [u8], list: &'a [u8], value: u8, state: &mut [u8])
     ensures { state.new ≡ set_all kept.now value (words list.now) state.old }
 {
-    let mut i: usize = 0;
-    while 1 < list.len() - i {
-        set_one(kept, words::word(list, i) as usize, value, state);
-        i = i + 2;
+    for b in words::numbers(list) {
+        set_one(kept, usize::from(b), value, state);
     }
 }
 
@@ -54,14 +52,9 @@ fn first(held: [u64; 4]) -> Option<TableCondition>
     if together(held) == 0 {
         return None;
     }
-    let mut b: usize = 0;
-    while b < 256 {
-        if held::holds(held, b) {
-            return Some(TableCondition(b as u16));
-        }
-        b = b + 1;
-    }
-    None
+    (0..256)
+        .find(|b| held::holds(held, usize::from(*b)))
+        .map(TableCondition)
 }
 
 // The postconditions that hold and, but under the old rule, are no preconditions.
@@ -109,7 +102,12 @@ fn ordinary(table: &[u8], held: [u64; 4]) -> Option<TableCondition>
 }
 
 // What stops an event with these two lists, if anything does.
-fn test<'a>(table: &'a [u8], pre: &'a [u8], post: &'a [u8], state: &'a [u8]) -> Result<(), Cause<TableCondition>>
+fn test<'a>(
+    table: &'a [u8],
+    pre: &'a [u8],
+    post: &'a [u8],
+    state: &'a [u8],
+) -> Result<(), Cause<TableCondition>>
     requires { Listed pre.now post.now × (length state.now ≤ 256) }
     ensures { result ≡ step_of (stopping (lists_net table.now pre.now post.now) (marking state.now) 0) }
 {
