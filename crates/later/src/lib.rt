@@ -56,14 +56,10 @@ pub fn own_markers<'a>(table: &'a [u8], events: usize, users: &'a [u32], firsts:
     ensures { Later (net_of table.now) firsts.slots result.slots }
 {
     let mut later = firsts;
-    let mut at = table::offset(table, 0);
-    let mut e: usize = 0;
-    while e < events {
-        let pre = tally::list_at(table, at, false);
-        let post = tally::list_at(table, at, true);
-        later = own_all(later, table, users, pre, post, e as u16);
-        at = at + 4 + words::word(table, at) as usize;
-        e = e + 1;
+    for event in table::events(table, events) {
+        let pre = tally::list_at(table, event.at, false);
+        let post = tally::list_at(table, event.at, true);
+        later = own_all(later, table, users, pre, post, event.number as u16);
     }
     later
 }
