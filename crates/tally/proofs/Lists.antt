@@ -2,7 +2,7 @@
 use Prim.Native.Nat.{ℕ, zero, suc, ◌+◌, ◌*◌, ◌-◌, ◌≤◌, ◌<◌}
 use native.Mathlib.Omega.{arith}
 use native.Mathlib.Decide.{ℕ_discrete}
-use mathlib.Core.Path.{◌≡◌, refl, ◌∙◌}
+use mathlib.Core.Path.{◌≡◌, refl, ap, ◌∙◌}
 use mathlib.Core.List.{List, [], ◌∷◌}
 use mathlib.Core.Bool.{Bool, true, false, ◌||◌}
 use lib.Dec.{T, eqb, eqb_refl, leb, leb→le}
@@ -14,7 +14,7 @@ use Rattle.lists.proofs.Bools.{or_left, or_right, is_false, and_left, and_right}
 use Rattle.lists.proofs.Members.{mem_in}
 use Rattle.lists.proofs.Distinct.{ascending_least}
 use Rattle.words.specs.Words.{word_at, words}
-use Rattle.words.proofs.Laws.{words_next, words_end}
+use Rattle.words.proofs.Laws.{words_next}
 use Rattle.tally.specs.Having.{raised}
 
 -- ---- one number raised
@@ -32,25 +32,36 @@ set_low l i k h b = go (ℕ_discrete b i)
         same (x ∷ l) zero q = omega arith
         same (x ∷ l) (suc i) q = same l i q
 
--- the numbers raised along a list, at the number that stands at i
+-- the members of what is left of a list, at the number that stands at i
 module _ (counts list : List ℕ) (i w : ℕ) (h : 1 < length list - i) (e : w ≡ word_at list i) where
-  pub raised_next : raised counts (words (drop i list)) ≡ raised (set counts w (get_or counts w 0 + 1)) (words (drop (i + 2) list))
-  unfolding raised
-  raised_next = rw (words_next list i h, ← e)
-
   pub inside_here : (k : ℕ) → ((b : ℕ) → T (mem b (words (drop i list))) → b < k) → w < k
   inside_here k f = f w (rw (words_next list i h, ← e) (or_left (eqb w w) (mem w (words (drop (i + 2) list))) (eqb_refl w)))
 
   pub inside_later : (k : ℕ) → ((b : ℕ) → T (mem b (words (drop i list))) → b < k) → (b : ℕ) → T (mem b (words (drop (i + 2) list))) → b < k
   inside_later k f b t = f b (rw (words_next list i h) (or_right (eqb b (word_at list i)) (mem b (words (drop (i + 2) list))) t))
 
--- below 256 the first byte of a number is the number
-pub first_byte : (list : List ℕ) (i k : ℕ) → 1 < length list - i → ((b : ℕ) → T (mem b (words (drop i list))) → b < k) → k ≤ 256 → get_or list i 0 ≡ word_at list i
-first_byte list i k h f n = omega (arith, inside_here [] list i (word_at list i) h refl k f)
+-- what is left of a list, of which w is the first number
+module _ (w : ℕ) (rest left : List ℕ) (first : left ≡ w ∷ rest) where
+  pub first_inside : (k : ℕ) → ((b : ℕ) → T (mem b left) → b < k) → w < k
+  first_inside k f = f w (rw first (or_left (eqb w w) (mem w rest) (eqb_refl w)))
 
-pub raised_end : (counts list : List ℕ) (i : ℕ) → length list - i ≤ 1 → raised counts (words (drop i list)) ≡ counts
+  pub rest_inside : (k : ℕ) → ((b : ℕ) → T (mem b left) → b < k) → (b : ℕ) → T (mem b rest) → b < k
+  rest_inside k f b t = f b (rw first (or_right (eqb b w) (mem b rest) t))
+
+  -- what is left has room for one more each
+  pub low_first : (counts : List ℕ) (k : ℕ) → ((b : ℕ) → get_or counts b 0 + length left ≤ k)
+      → (b : ℕ) → get_or (set counts w (get_or counts w 0 + 1)) b 0 + length rest ≤ k
+  low_first counts k h b =
+      let long : length left ≡ length rest + 1 = ap length first ∙ omega arith in
+      omega (arith, h b, set_low counts w (k - length left) (λ x. omega (arith, h x)) b)
+
+  pub raised_first : (counts : List ℕ) → raised counts left ≡ raised (set counts w (get_or counts w 0 + 1)) rest
+  unfolding raised
+  raised_first counts = rw first
+
+pub raised_none : (counts left : List ℕ) → left ≡ [] → raised counts left ≡ counts
 unfolding raised
-raised_end counts list i h = rw (words_end list i h)
+raised_none counts left none = rw none
 
 -- ---- what has been raised
 

@@ -31,11 +31,9 @@ pub fn raise(counts: &mut [u32], list: &[u8])
     requires { Room counts.old list.now }
     ensures { counts.new ≡ raised counts.old (words list.now) }
 {
-    let mut i: usize = 0;
-    while 1 < list.len() - i {
-        let b = words::word_within(list, i) as usize;
+    for b in words::numbers(list) {
+        let b = usize::from(b);
         counts[b] = counts[b] + 1;
-        i = i + 2;
     }
 }
 
@@ -45,11 +43,9 @@ fn raise_low(counts: &mut [u32], list: &[u8])
     requires counts_len { length counts.old ≡ 256 }
     ensures { counts.new ≡ raised counts.old (words list.now) }
 {
-    let mut i: usize = 0;
-    while 1 < list.len() - i {
-        let b = list[i] as usize;
+    for b in words::numbers(list) {
+        let b = usize::from(b as u8);
         counts[b] = counts[b] + 1;
-        i = i + 2;
     }
 }
 
