@@ -9,15 +9,14 @@ use mathlib.Core.List.Memᴰ
 use mathlib.Core.List.{List, [], ◌∷◌, map}
 use mathlib.Core.Logic.{◌⊎◌, inl, inr}
 use lib.Dec.{T, eqb, eqb_refl, leb, ltb}
-use lib.ListN.{length, get_or, set, drop, length-set, get_or-eq_default}
+use lib.ListN.{length, get_or, set, length-set, get_or-eq_default}
 use lib.Seq.{get_or-set_same, get_or-set_other}
 use borrow.Author.Tests.{eq-eqb, ne_eqb, lt-ltb, le-ltb}
 use Rattle.lists.specs.Lists.{mem, ascending_from, index, keep, count, ◌∈◌}
 use Rattle.lists.proofs.Bools.{or_left, or_right, is_true, is_false, and_right}
 use Rattle.lists.proofs.Members.{mem_in, keep_out, count_out}
 use Rattle.lists.proofs.Distinct.{ascending_least}
-use Rattle.words.specs.Words.{word_at, words}
-use Rattle.words.proofs.Laws.{words_next, words_end}
+use Rattle.words.specs.Words.{words}
 use Rattle.model.specs.Net.{Net}
 use Rattle.model.specs.Runs.{Marker, at_start, by_event}
 use Rattle.model.specs.Unfolding.{same_marker, markers}
@@ -79,9 +78,9 @@ placed_at slots e k places (x ∷ l) a f b =
     go (yes z) ih = ih ∙ rw (z, eq-eqb x x refl, past, get_or-set_same places x v 0 low) (omega arith)
     go (no z) ih = ih ∙ rw (ne_eqb b x z, get_or-set_other places x b v 0 z)
 
--- ---- two bytes at a time
+-- ---- one number at a time
 
-pub more_low : (places : List ℕ) (i m k : ℕ) → m ≤ 1 → ((b : ℕ) → get_or places b 0 ≤ k) → (b : ℕ) → get_or (set places i (get_or places i 0 + m)) b 0 ≤ k + 1
+more_low : (places : List ℕ) (i m k : ℕ) → m ≤ 1 → ((b : ℕ) → get_or places b 0 ≤ k) → (b : ℕ) → get_or (set places i (get_or places i 0 + m)) b 0 ≤ k + 1
 more_low places i m k s h b = go (ℕ_discrete b i) (dec_le (length places) i)
   where
     go : Dec (b ≡ i) → Dec (length places ≤ i) → get_or (set places i (get_or places i 0 + m)) b 0 ≤ k + 1
@@ -92,15 +91,22 @@ more_low places i m k s h b = go (ℕ_discrete b i) (dec_le (length places) i)
 pub more_one : (o : Option Marker) (e : ℕ) {r : ℕ} → r ≡ place_more o e → r ≤ 1
 more_one o e q = omega (arith, q, more_few o e)
 
-module _ (slots : List Slot) (e : ℕ) (list : List ℕ) (i w : ℕ) (h : 1 < length list - i) (q : w ≡ word_at list i) where
-  pub placed_next : (places : List ℕ) → placed_all slots e places (words (drop i list))
-      ≡ placed_all slots e (set places w (get_or places w 0 + place_more (first_at slots w) e)) (words (drop (i + 2) list))
-  unfolding placed_all
-  placed_next places = rw (words_next list i h, ← q)
+-- what is left of a list, of which w is the first number
+module _ (w : ℕ) (rest left : List ℕ) (first : left ≡ w ∷ rest) where
+  pub more_first : (places : List ℕ) (m k : ℕ) → m ≤ 1 → ((b : ℕ) → get_or places b 0 + length left ≤ k)
+      → (b : ℕ) → get_or (set places w (get_or places w 0 + m)) b 0 + length rest ≤ k
+  more_first places m k s h b =
+      let long : length left ≡ length rest + 1 = ap length first ∙ omega arith in
+      omega (arith, h b, more_low places w m (k - length left) s (λ x. omega (arith, h x)) b)
 
-pub placed_end : (slots : List Slot) (e : ℕ) (places list : List ℕ) (i : ℕ) → length list - i ≤ 1 → placed_all slots e places (words (drop i list)) ≡ places
+  pub placed_first : (slots : List Slot) (e : ℕ) (places : List ℕ) {m : ℕ} → m ≡ place_more (first_at slots w) e
+      → placed_all slots e (set places w (get_or places w 0 + m)) rest ≡ placed_all slots e places left
+  unfolding placed_all
+  placed_first slots e places q = rw (first, q)
+
+pub placed_none : (slots : List Slot) (e : ℕ) (places left : List ℕ) → left ≡ [] → placed_all slots e places left ≡ places
 unfolding placed_all
-placed_end slots e places list i h = rw (words_end list i h)
+placed_none slots e places left q = rw q
 
 -- ---- the events so far
 

@@ -1,17 +1,16 @@
 -- Places put together come to the number of the colour that the markers make.
-use Prim.Native.Nat.{ℕ, ◌+◌, ◌*◌, ◌-◌, ◌≤◌, ◌<◌}
+use Prim.Native.Nat.{ℕ, ◌+◌, ◌*◌, ◌≤◌, ◌<◌}
 use native.Mathlib.Omega.{arith}
 use native.Mathlib.Nat.{add-mul, mul_assoc, mul-le-mul, zero-mul, le-mul_of_pos_right}
 use mathlib.Core.Path.{◌≡◌, refl, ap, ◌∙◌}
 use mathlib.Core.Bool.{Bool, true, false, cond}
 use mathlib.Core.List.{List, [], ◌∷◌, map}
 use lib.Dec.{T, eqb, eqb_refl}
-use lib.ListN.{length, get_or, drop}
+use lib.ListN.{length, get_or}
 use Rattle.lists.specs.Lists.{mem, index, keep, sum}
 use Rattle.lists.proofs.Bools.{is_true, or_left, or_right}
 use Rattle.lists.proofs.Members.{mem_in, in_mem, keep_out}
-use Rattle.words.specs.Words.{word_at, words}
-use Rattle.words.proofs.Laws.{words_next, words_end}
+use Rattle.words.specs.Words.{words}
 use Rattle.model.specs.Runs.{Marker}
 use Rattle.model.specs.Unfolding.{same_marker, markers, reads}
 use Rattle.model.specs.Numbering.{ways, radix, size}
@@ -76,14 +75,14 @@ grows s ms ps c a (b ∷ l) f = go (flagged s b) (λ k. grows s ms ps c k l (λ 
 
 -- ---- two bytes at a time
 
-module _ (s ms ps list : List ℕ) (i w : ℕ) (h : 1 < length list - i) (q : w ≡ word_at list i) where
-  pub joined_next : (a : ℕ) → joined_all s ms ps a (words (drop i list)) ≡ joined_all s ms ps (joined s ms ps a w) (words (drop (i + 2) list))
-  unfolding joined_all
-  joined_next a = rw (words_next list i h, ← q)
-
-pub joined_end : (s ms ps list : List ℕ) (i a : ℕ) → length list - i ≤ 1 → joined_all s ms ps a (words (drop i list)) ≡ a
+pub joined_first : (s ms ps : List ℕ) (w : ℕ) (rest left : List ℕ) → left ≡ w ∷ rest → (a : ℕ) {r : ℕ} → r ≡ joined s ms ps a w
+    → joined_all s ms ps r rest ≡ joined_all s ms ps a left
 unfolding joined_all
-joined_end s ms ps list i a h = rw (words_end list i h)
+joined_first s ms ps w rest left first a q = rw (first, q)
+
+pub joined_none : (s ms ps left : List ℕ) → left ≡ [] → (a : ℕ) → joined_all s ms ps a left ≡ a
+unfolding joined_all
+joined_none s ms ps left q a = rw q
 
 pub joined_few : (s ms ps l : List ℕ) → Joining s ms ps l → (a : ℕ) (k : List ℕ) → ((b : ℕ) → T (mem b k) → b < 256) → joined_all s ms ps a k ≡ joined_all s ms ps 0 l → a ≤ most_unfolded
 joined_few s ms ps l j a k f q = omega (arith, grows s ms ps j.marked a k f, j.limit)

@@ -41,10 +41,8 @@ fn begin_places(firsts: Firsts, places: &mut [u32])
     requires { length places.old ≡ 256 }
     ensures { Begun firsts.slots places.new }
 {
-    let mut b: usize = 0;
-    while b < 256 {
-        places[b] = place_begun(firsts.slots[b]);
-        b = b + 1;
+    for (b, place) in places.iter_mut().enumerate() {
+        *place = place_begun(firsts.slots[b]);
     }
 }
 
@@ -54,11 +52,9 @@ fn count_event(firsts: Firsts, e: usize, list: &[u8], places: &mut [u32])
     requires places_len { length places.old ≡ 256 }
     ensures { places.new ≡ placed_all firsts.slots e places.old (words list.now) }
 {
-    let mut i: usize = 0;
-    while 1 < list.len() - i {
-        let b = words::word(list, i) as usize;
+    for b in words::numbers(list) {
+        let b = usize::from(b);
         places[b] = places[b] + place_more(firsts.slots[b], e);
-        i = i + 2;
     }
 }
 
@@ -70,12 +66,9 @@ pub fn marker_places(table: &[u8], events: usize, firsts: Firsts, places: &mut [
     ensures { Placed (net_of table.now) firsts.slots places.new }
 {
     begin_places(firsts, places);
-    let mut at = table::offset(table, 0);
-    let mut e: usize = 0;
-    while e < events {
-        count_event(firsts, e, tally::list_at(table, at, true), places);
-        at = at + 4 + words::word(table, at) as usize;
-        e = e + 1;
+    for event in table::events(table, events) {
+        let list = tally::list_at(table, event.at, true);
+        count_event(firsts, event.number, list, places);
     }
 }
 
@@ -102,11 +95,8 @@ fn joined_all<'a>(table: &'a [u8], markers: &'a [u32], places: &'a [u32], list: 
     ensures { result ≡ joined_all table.now markers.now places.now 0 (words list.now) }
 {
     let mut number: u32 = 0;
-    let mut i: usize = 0;
-    while 1 < list.len() - i {
-        let b = words::word(list, i) as usize;
-        number = joined_one(table, markers, places, number, b);
-        i = i + 2;
+    for b in words::numbers(list) {
+        number = joined_one(table, markers, places, number, usize::from(b));
     }
     number
 }
@@ -124,14 +114,10 @@ fn event_numbers<'a>(
     requires numbers_len { length numbers.old ≡ 256 }
     ensures { Numbered table.now markers.now places.now (net_of table.now).events numbers.new }
 {
-    let mut at = table::offset(table, 0);
-    let mut e: usize = 0;
-    while e < events {
-        let list = tally::list_at(table, at, false);
+    for event in table::events(table, events) {
+        let list = tally::list_at(table, event.at, false);
         let number = joined_all(table, markers, places, list);
-        numbers[e] = tally::number(before, e) + number;
-        at = at + 4 + words::word(table, at) as usize;
-        e = e + 1;
+        numbers[event.number] = tally::number(before, event.number) + number;
     }
 }
 

@@ -1,37 +1,38 @@
 -- `places::count_event` meets its contract.
 use native.Mathlib.Omega.{arith}
-use Prim.Native.Nat.{ℕ, ◌+◌}
-use mathlib.Core.Path.{◌∙◌, sym, ap}
-use lib.ListN.{length, drop, get_or, set, length-set}
-use Rattle.words.specs.Words.{words}
-use Rattle.tally.proofs.Lists.{inside_here, inside_later}
-use Rattle.firsts.specs.Firsts.{first_at}
-use Rattle.places.specs.Places.{placed_all}
-use Rattle.places.proofs.Counting.{more_low, more_one, placed_next, placed_end}
+use mathlib.Core.Path.{◌∙◌, sym}
+use lib.ListN.{length-set}
+use Rattle.words.proofs.Laws.{length_words}
+use Rattle.tally.proofs.Lists.{first_inside, rest_inside}
+use Rattle.places.proofs.Counting.{more_one, more_first, placed_first, placed_none}
 use Rattle.places.proofs.count_event.Goals as goal
-
-pub bounds-firsts-b : goal.bounds-firsts-b
-bounds-firsts-b c =
-    omega (arith, inside_here c.loop-i.places c.args.list.now c.loop-i.i c.word-b.result (omega arith) c.word-b.ensures (length c.loop-i.places) c.loop-i.invariant.3)
 
 pub bounds-places-b : goal.bounds-places-b
 bounds-places-b c =
-    inside_here c.loop-i.places c.args.list.now c.loop-i.i c.word-b.result (omega arith) c.word-b.ensures (length c.loop-i.places) c.loop-i.invariant.3
+    rw c.from-b.ensures (first_inside _ _ _ c.in-Some.ensures.steps _ c.loop-b.invariant.1)
+
+pub bounds-firsts-b : goal.bounds-firsts-b
+bounds-firsts-b c =
+    omega (arith, c.from-b.ensures, first_inside _ _ _ c.in-Some.ensures.steps _ c.loop-b.invariant.1, c.requires.places_len)
 
 pub overflow_add-places : goal.overflow_add-places
 overflow_add-places c =
-    omega (arith, c.loop-i.invariant.2 c.word-b.result, more_one (first_at c.args.firsts.slots c.word-b.result) c.args.e c.place_more.ensures, c.requires.room.few)
+    let one = more_one _ c.args.e c.place_more.ensures in
+    omega (arith, c.loop-b.invariant.0 c.from-b.result, length_words c.args.list.now, c.requires.room.few)
 
-pub bounds-places-b-in-loop-i : goal.bounds-places-b-in-loop-i
-bounds-places-b-in-loop-i c =
-    inside_here c.loop-i.places c.args.list.now c.loop-i.i c.word-b.result (omega arith) c.word-b.ensures (length c.loop-i.places) c.loop-i.invariant.3
+pub bounds-places-b-in-loop-b : goal.bounds-places-b-in-loop-b
+bounds-places-b-in-loop-b c =
+    rw c.from-b.ensures (first_inside _ _ _ c.in-Some.ensures.steps _ c.loop-b.invariant.1)
 
-pub loop-i-preserved : goal.loop-i-preserved
-loop-i-preserved c =
-    let low = more_low c.loop-i.places c.word-b.result c.place_more.result (1000 + c.loop-i.i) (more_one (first_at c.args.firsts.slots c.word-b.result) c.args.e c.place_more.ensures) c.loop-i.invariant.2 in
-    let on = ap (λ (x : ℕ). placed_all c.args.firsts.slots c.args.e (set c.loop-i.places c.word-b.result (get_or c.loop-i.places c.word-b.result 0 + x)) (words (drop (c.loop-i.i + 2) c.args.list.now))) c.place_more.ensures in
-    simp length-set (omega arith, c.loop-i.invariant.1, λ b. omega (arith, low b), inside_later c.loop-i.places c.args.list.now c.loop-i.i c.word-b.result (omega arith) c.word-b.ensures (length c.loop-i.places) c.loop-i.invariant.3, on ∙ sym (placed_next c.args.firsts.slots c.args.e c.args.list.now c.loop-i.i c.word-b.result (omega arith) c.word-b.ensures c.loop-i.places) ∙ c.loop-i.invariant.4)
+pub loop-b-preserved : goal.loop-b-preserved
+loop-b-preserved c =
+    let i = c.loop-b.invariant in
+    let first = c.in-Some.ensures.steps in
+    let more = rw c.from-b.ensures at c.place_more.ensures in
+    let low = more_first _ _ _ first c.loop-b.places _ _ (more_one _ c.args.e more) i.0 in
+    let placed = placed_first _ _ _ first c.args.firsts.slots c.args.e c.loop-b.places more ∙ i.2 in
+    rw c.from-b.ensures (low, simp length-set (rest_inside _ _ _ first _ i.1), placed)
 
 pub returns : goal.returns
 returns c =
-    sym (placed_end c.args.firsts.slots c.args.e c.loop-i.places c.args.list.now c.loop-i.i c.loop-i-test.false) ∙ c.loop-i.invariant.4
+    sym (placed_none _ _ _ _ c.in-None.ensures.steps.0) ∙ c.loop-b.invariant.2

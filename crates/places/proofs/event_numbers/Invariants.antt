@@ -1,12 +1,7 @@
--- What each turn of a loop in `places::event_numbers` keeps, and what falls.
-use Prim.Native.Nat.{◌-◌, ◌≤◌}
-use mathlib.Core.Path.{◌≡◌}
-use Rattle.table.specs.Walk.{offset_of}
+-- What each turn of a loop in `places::event_numbers` keeps.
+use Rattle.table.proofs.InOrder.{Over}
 use Rattle.places.specs.Numbers.{Numbered}
 use Rattle.places.proofs.event_numbers.Given as goal
 
-abbrev pub invariant-loop-e : goal.invariant-loop-e
-invariant-loop-e l = (l.e ≤ l.events) × (l.at ≡ offset_of l.table l.e) × Numbered l.table l.markers l.places l.e l.numbers
-
-abbrev pub decreases-loop-e : goal.decreases-loop-e
-decreases-loop-e l = l.events - l.e
+abbrev pub invariant-loop-event : goal.invariant-loop-event
+invariant-loop-event l = Over l.table l.events l.event-iterator × Numbered l.table l.markers l.places l.event-iterator.number l.numbers
