@@ -56,7 +56,7 @@ pub fn walk<'a>(
     table: &'a [u8],
     events: usize,
     offsets: &'a [usize],
-    once: &'a [u8],
+    once: &'a [bool; 256],
     run: &'a [u16],
     seen: &mut [bool; 256],
 ) -> Walked
@@ -74,7 +74,7 @@ pub fn walk<'a>(
         let e = run[k];
         k = k + 1;
         if seen[e as usize] {
-            if once[e as usize] == 1 {
+            if once[e as usize] {
                 repeat = repeat.or(Some(k - 1));
             }
         } else {

@@ -1,12 +1,12 @@
 -- `firsts::walk` meets its contract.
-use borrow.Author.Tests.{eq-eqb, ne_eqb}
 use native.Mathlib.Omega.{arith}
 use mathlib.Core.Path.{refl}
 use mathlib.Core.Bool.{true, false}
 use Rattle.table.specs.Decoded.{net_of}
 use Rattle.firsts.specs.Firsts.{no_slots}
 use Rattle.firsts.proofs.Along.{along_start, along_new, along_again, along_repeat, along_end}
-use Rattle.firsts.proofs.Walking.{few_events, start_inside, start_length, start_first, post_inside, post_length, post_first, step_event, step_low, step_inside, step_offset, step_once, step_others}
+use Rattle.firsts.proofs.Walking.{few_events, start_inside, start_length, start_first, post_inside, post_length, post_first}
+use Rattle.firsts.proofs.Walking.{step_event, step_low, step_inside, step_offset, step_others}
 use Rattle.firsts.proofs.walk.Goals as goal
 
 pub overflow_cast-events : goal.overflow_cast-events
@@ -40,18 +40,18 @@ overflow_cast-e-then-seen-e c =
 
 pub bounds-once-e : goal.bounds-once-e
 bounds-once-e c =
-    step_once _ _ _ _ c.requires.walkable _ _ _ _ c.loop-k.invariant c.loop-k-test.true _ c.requires.once
+    omega (arith, step_low _ _ _ _ c.requires.walkable _ _ _ _ c.loop-k.invariant c.loop-k-test.true)
 
-pub loop-k-preserved-then-once-e-eq1 : goal.loop-k-preserved-then-once-e-eq1
-loop-k-preserved-then-once-e-eq1 c =
+pub loop-k-preserved-then-once-e : goal.loop-k-preserved-then-once-e
+loop-k-preserved-then-once-e c =
     let low = step_low _ _ _ _ c.requires.walkable _ _ _ _ c.loop-k.invariant c.loop-k-test.true in
-    let m = step_others _ _ _ _ c.requires.walkable _ _ _ _ c.loop-k.invariant c.loop-k-test.true _ c.requires.once true (eq-eqb _ 1 c.if-once-e-eq1.true) in
+    let m = step_others _ _ _ _ c.requires.walkable _ _ _ _ c.loop-k.invariant c.loop-k-test.true _ c.requires.once true c.if-once-e.true in
     rw c.or-repeat.ensures (along_repeat _ _ _ _ _ _ c.loop-k.invariant c.loop-k-test.true _ refl low c.if-seen-e.true m _ (omega arith))
 
-pub loop-k-preserved-else-once-e-eq1 : goal.loop-k-preserved-else-once-e-eq1
-loop-k-preserved-else-once-e-eq1 c =
+pub loop-k-preserved-else-once-e : goal.loop-k-preserved-else-once-e
+loop-k-preserved-else-once-e c =
     let low = step_low _ _ _ _ c.requires.walkable _ _ _ _ c.loop-k.invariant c.loop-k-test.true in
-    let m = step_others _ _ _ _ c.requires.walkable _ _ _ _ c.loop-k.invariant c.loop-k-test.true _ c.requires.once false (ne_eqb _ 1 c.if-once-e-eq1.false) in
+    let m = step_others _ _ _ _ c.requires.walkable _ _ _ _ c.loop-k.invariant c.loop-k-test.true _ c.requires.once false c.if-once-e.false in
     along_again _ _ _ _ _ _ c.loop-k.invariant c.loop-k-test.true _ refl low c.if-seen-e.true m
 
 pub overflow_cast-seen : goal.overflow_cast-seen

@@ -7,7 +7,8 @@ use Rattle.table.specs.Decoded.{net_of}
 use Rattle.played.proofs.Begun.{begun_plays}
 use Rattle.unfolding.proofs.Owners.{within_laid}
 use Rattle.across.specs.Calls.{fitted}
-use Rattle.lift.proofs.Answers.{lifting_of, lift_refused, lift_went, lift_stopped, lift_runs, laid_open, laid_events, laid_judged, laid_few, laid_refused, laid_used}
+use Rattle.lift.proofs.Answers.{lifting_of, lift_refused, lift_went, lift_stopped, lift_runs}
+use Rattle.lift.proofs.Answers.{laid_open, laid_events, laid_judged, laid_few, laid_refused, laid_used}
 use Rattle.lift.proofs.lift.Goals as goal
 
 pub returns-in_err-events : goal.returns-in_err-events
@@ -38,11 +39,11 @@ pub returns-in_err-play : goal.returns-in_err-play
 returns-in_err-play c =
     let s = c.args.table.now in
     let r = c.args.run.now in
-    let room = length c.args.out.now in
+    let own = fitted (lifting_of (net_of s) r) (length c.args.out.now) in
     let go = laid_open s r c.lay_out_run.ensures.answer c.in_ok-events.was in
     let told : c.from_residual-in_err-play.result ≡ Err c.in_err-play.field-0.0 = search rules in
     let p = begun_plays _ _ _ c.start_held-start.ensures _ _ c.play.ensures in
-    let stops = lift_stopped s r _ p room (go (Ok 0)) (go (fitted (lifting_of (net_of s) r) room)) c.in_err-play.was in
+    let stops = lift_stopped s r _ p _ (go (Ok 0)) (go own) c.in_err-play.was in
     let whole = lift_refused s r c.args.out.now told (told ∙ stops) in
     record {
       answer = whole.0;
@@ -69,7 +70,8 @@ returns c =
     let s = c.args.table.now in
     let r = c.args.run.now in
     let go = laid_open s r c.lay_out_run.ensures.answer c.in_ok-events.was in
-    let whole = lift_went s r c.args.out.now _ (go (Ok 0)) (go (fitted (lifting_of (net_of s) r) (length c.args.out.now))) c.lift_played.ensures.answer c.lift_played.ensures.after in
+    let own = fitted (lifting_of (net_of s) r) (length c.args.out.now) in
+    let whole = lift_went s r c.args.out.now _ (go (Ok 0)) (go own) c.lift_played.ensures.answer c.lift_played.ensures.after in
     record {
       answer = whole.0;
       after = whole.1;
