@@ -16,9 +16,9 @@ use Rattle.model.specs.Numbering.{same_event, number}
 use Rattle.model.proofs.Unfolded.{Each, choices_each, colour_out, origin_in}
 use Rattle.model.proofs.Numbers.{same_event_eq}
 use Rattle.refusal.specs.Answer.{Judged}
-use Rattle.std.specs.Prelude.{Ok, Err}
+use Rattle.std.specs.Prelude.{Result, Ok, Err}
 use Rattle.refusal.specs.Answer.{need}
-use Rattle.refusal.proofs.Chain.{need_passes, need_fine, never_both}
+use Rattle.refusal.proofs.Chain.{need_passes, need_fine, never_both, ok_is}
 use Rattle.table.specs.Decoded.{net_of}
 use Rattle.table.specs.Tabled.{Tabled}
 use Rattle.table.proofs.Sound.{tabled}
@@ -27,11 +27,13 @@ use Rattle.layout.proofs.Limits.{unfolds_judged}
 use Rattle.unfolding.proofs.Numbered.{index_found}
 use Rattle.events.specs.declared.Colour.{Colour}
 use Rattle.events.specs.declared.EventOrigin.{EventOrigin}
+use Rattle.refusal.specs.declared.Refusal.{Refusal}
 use Rattle.events.specs.Colours.{push_all, no_colour, marker_at, colour_of}
-use Rattle.events.specs.Answers.{origin_if, origin_judged, origin_of}
+use Rattle.events.specs.Answers.{origin_if, origin_judged, origin_of, origin_answer, origin_event, origin_colour}
+use Rattle.events.proofs.Calls.{origin_many}
 use Rattle.event_numbers.specs.Answers.{number_of}
 use Rattle.inverse.proofs.Numbers.{number_origin, origin_number_lem}
-use Rattle.inverse.proofs.Prefix.{prefix_passed, fine_same}
+use Rattle.inverse.proofs.Prefix.{prefix_passed}
 use Rattle.inverse.proofs.Colours.{colour_told}
 
 -- an unfolded event of a table has at most sixteen markers
@@ -48,17 +50,12 @@ few_markers n t x i =
     omega (arith, each_length x.colour mss (choices_each mss x.colour o.1), length-map (reads n x.event) (markers n), t.few_persistent x.event o.0)
 
 module _ (s : List ℕ) where
-  -- what an origin's answer says of its parts
-  origin_parts : (j : ℕ) (a : Judged) (k : ℕ) → origin_judged s j ≡ a → (origin_if a (origin (net_of s) j)).answer ≡ Ok k
-      → (origin_judged s j ≡ Ok k) × (origin_if a (origin (net_of s) j) ≡ origin_if (Ok k) (origin (net_of s) j))
-  origin_parts j (Err x) k e t = never_both (sym t)
-  origin_parts j (Ok n) k e t = (e ∙ t, ap (λ (a : Judged). origin_if a (origin (net_of s) j)) t)
-
   module _ (u : (own : Judged) → unfolding_of s own ≡ own) where
     tabled_net : Tabled (net_of s)
     tabled_net = let j = unfolds_judged s (Ok 0) 0 (sym (u (Ok 0))) refl in tabled s j.0 j.1
 
-    number_fine : (e : ℕ) (c : Colour) (j : ℕ) → number (net_of s) (record { event = e; colour = colour_of c }) ≡ j → ltb j (basic (net_of s)).events ≡ true → number_of s e c ≡ Ok j
+    number_fine : (e : ℕ) (c : Colour) (j : ℕ) → number (net_of s) (record { event = e; colour = colour_of c }) ≡ j
+        → ltb j (basic (net_of s)).events ≡ true → number_of s e c ≡ Ok j
     unfolding number_of
     number_fine e c j q low = u _ ∙ ap (λ (x : ℕ). need (ltb x (basic (net_of s)).events) 10 0 (Ok x)) q ∙ need_passes 10 0 low
 
@@ -70,37 +67,43 @@ module _ (s : List ℕ) where
         let fine : origin_judged s j ≡ Ok (length (origin (net_of s) j).colour) = u _ ∙ need_passes 10 0 low in
         ap (λ (a : Judged). origin_if a (origin (net_of s) j)) fine ∙ ap (λ (y : UnfoldedEvent). origin_if (Ok (length y.colour)) y) o
 
-  -- What `event_origin` tells of a number, `event_number` takes back to it.
-  pub event_back : (j k : ℕ) → (origin_of s j).answer ≡ Ok k → number_of s (origin_of s j).event.0 (origin_of s j).colour ≡ Ok j
-  unfolding origin_of origin_judged
-  event_back j k t =
+  back_if : (j k : ℕ) (a : Judged) → origin_judged s j ≡ a → let o = origin_if a (origin (net_of s) j) in
+      origin_answer o ≡ Ok k → number_of s (origin_event o) (origin_colour o) ≡ Ok j
+  unfolding origin_judged
+  back_if j k (Err x) e t = never_both (sym t)
+  back_if j k (Ok n) e t =
       let x = origin (net_of s) j in
-      let p = origin_parts j (origin_judged s j) k refl t in
-      let o = prefix_passed s (need (ltb j (basic (net_of s)).events) 10 0 (Ok (length x.colour))) k p.0 in
-      let low = (need_fine (ltb j (basic (net_of s)).events) 10 0 k (Ok (length x.colour)) o.1).0 in
+      let o = prefix_passed s (need (ltb j (basic (net_of s)).events) 10 0 (Ok (length x.colour))) n e in
+      let low = (need_fine (ltb j (basic (net_of s)).events) 10 0 n (Ok (length x.colour)) o.1).0 in
       let i = origin_in (net_of s) j (T_of (ltb j (basic (net_of s)).events) low) in
       let same : colour_of (push_all no_colour x.colour) ≡ x.colour = colour_told x.colour (few_markers (net_of s) (tabled_net o.0) x i) in
-      ap (λ (y : EventOrigin). number_of s y.event.0 y.colour) p.1
-      ∙ number_fine o.0 x.event (push_all no_colour x.colour) j
-      (ap (λ (c : List Marker). number (net_of s) (record { event = x.event; colour = c })) same ∙ number_origin (net_of s) j low) low
+      let back = ap (λ (c : List Marker). number (net_of s) (record { event = x.event; colour = c })) same ∙ number_origin (net_of s) j low in
+      number_fine o.0 x.event (push_all no_colour x.colour) j back low
+
+  -- What `event_origin` tells of a number, `event_number` takes back to it.
+  pub event_back : (j k : ℕ) → origin_answer (origin_of s j) ≡ Ok k → number_of s (origin_event (origin_of s j)) (origin_colour (origin_of s j)) ≡ Ok j
+  unfolding origin_of
+  event_back j k t = back_if j k (origin_judged s j) refl t
 
   -- What `event_number` gives an event and markers, `event_origin` takes back to them.
   pub event_forth : (e : ℕ) (c : Colour) (j : ℕ) → number_of s e c ≡ Ok j
-      → ((origin_of s j).answer ≡ Ok c.count) × ((origin_of s j).event.0 ≡ e) × (colour_of (origin_of s j).colour ≡ colour_of c)
+      → (origin_answer (origin_of s j) ≡ Ok c.count) × (origin_event (origin_of s j) ≡ e) × (colour_of (origin_colour (origin_of s j)) ≡ colour_of c)
   unfolding number_of basic number
   event_forth e c j t =
       let x : UnfoldedEvent = record { event = e; colour = colour_of c } in
       let k = number (net_of s) x in
+      let all = unfolded_events (net_of s) in
       let o = prefix_passed s (need (ltb k (basic (net_of s)).events) 10 0 (Ok k)) j t in
       let f = need_fine (ltb k (basic (net_of s)).events) 10 0 j (Ok k) o.1 in
-      let same : k ≡ j = fine_same k j f.1 in
-      let r = index_found (same_event x) (unfolded_events (net_of s)) (ltb→lt k (length (unfolded_events (net_of s))) (T_of (ltb k (length (unfolded_events (net_of s)))) f.0)) in
-      let i : x ∈ unfolded_events (net_of s) = subst (λ (y : UnfoldedEvent). y ∈ unfolded_events (net_of s)) (sym (same_event_eq x r.0 r.2)) r.1 in
+      let same : k ≡ j = ok_is f.1 in
+      let r = index_found (same_event x) all (ltb→lt k (length all) (T_of (ltb k (length all)) f.0)) in
+      let i : x ∈ all = subst (λ (y : UnfoldedEvent). y ∈ all) (sym (same_event_eq x r.0 r.2)) r.1 in
       let here : origin (net_of s) j ≡ x = ap (λ (y : ℕ). origin (net_of s) y) (sym same) ∙ origin_number_lem (net_of s) x i in
       let low : ltb j (basic (net_of s)).events ≡ true = subst (λ (y : ℕ). ltb y (basic (net_of s)).events ≡ true) same f.0 in
       let told = told_event o.0 j x i here low in
-      let long : length (colour_of c) ≡ c.count = length-map (count 0 (c.count - 0)) (marker_at c) ∙ length_count 0 (c.count - 0) ∙ omega arith in (
-        ap (λ (y : EventOrigin). y.answer) told ∙ ap Ok long,
-        ap (λ (y : EventOrigin). y.event.0) told,
-        ap (λ (y : EventOrigin). colour_of y.colour) told ∙ colour_told (colour_of c) (few_markers (net_of s) (tabled_net o.0) x i),
+      let long : length (colour_of c) ≡ c.count = length-map (count 0 (c.count - 0)) (marker_at c) ∙ length_count 0 (c.count - 0) ∙ omega arith in
+      let colour = ap (λ (y : Result EventOrigin Refusal). colour_of (origin_colour y)) told in (
+        ap origin_answer told ∙ origin_many x ∙ ap Ok long,
+        ap origin_event told,
+        colour ∙ colour_told (colour_of c) (few_markers (net_of s) (tabled_net o.0) x i),
       )

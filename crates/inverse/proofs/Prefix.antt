@@ -23,7 +23,3 @@ opened (Ok n) (some x) own k e = never_both (sym e)
 pub prefix_passed : (s : List ℕ) (own : Judged) (k : ℕ) → unfolding_of s own ≡ Ok k → ((other : Judged) → unfolding_of s other ≡ other) × (own ≡ Ok k)
 unfolding unfolding_of
 prefix_passed s own k e = opened (judge_of s) (unfolding_refused (net_of s)) own k e
-
--- A fine number is that number.
-pub fine_same : (a b : ℕ) → Ok a ≡ Ok b → a ≡ b
-fine_same a b e = cc
