@@ -1,13 +1,14 @@
 -- Markers and colours as numbers outside.
-use Rattle.std.specs.Prelude.{ℕ, Bool, cond, List, map, eqb, ltb, length, get_or}
+use Rattle.std.specs.Prelude.{ℕ, Bool, cond, List, map, eqb, ltb, length, get_or, Result, Ok, Err}
 use Rattle.lists.specs.Lists.{count}
 use Rattle.model.specs.Runs.{Marker, at_start, by_event}
 use Rattle.refusal.specs.declared.Marker as declared
 use Rattle.refusal.specs.declared.Marker.TheVariants.{Start, ByEvent}
-use Rattle.refusal.specs.Answer.{Judged}
-use Rattle.refusal.specs.Answer.{and_then, fitting, written}
+use Rattle.refusal.specs.declared.Refusal.{Refusal}
+use Rattle.refusal.specs.Answer.{Judged, fitting, written}
 use Rattle.events.specs.declared.Colour.{Colour}
 use Rattle.events.specs.declared.EventOrigin.{EventOrigin}
+use Rattle.events.specs.Answers.{origin_colour}
 use Rattle.events.specs.Colours.{colour_of}
 use Rattle.condition_numbers.specs.Answers.{ordinary_number, copy_number}
 
@@ -26,7 +27,7 @@ unfoldable pub marker_of : ℕ → declared.Marker
 marker_of w = cond (eqb w start_word) Start (ByEvent (record { 0 = cond (ltb w 65536) w 65535 }))
 
 -- The first sixteen markers that numbers say, the start past the last number.
-unfoldable pub picks_for : List ℕ → List Marker
+unfoldable pub picks_for : List ℕ → List declared.Marker
 unfolding marker_of
 picks_for ws = map (λ i. marker_of (get_or ws i start_word)) (count 0 16)
 
@@ -40,13 +41,14 @@ unfoldable pub words_of : Colour → List ℕ
 words_of c = map word_of (colour_of c)
 
 -- The markers of an origin, with room for so many: the origin's refusal, then 16; fine: how many (01, Runs across and Refusal numbers).
-unfoldable pub markers_of : EventOrigin → ℕ → Judged
-markers_of o room = and_then o.answer (λ _. fitting o.colour.count room)
+unfoldable pub markers_of : Result EventOrigin Refusal → ℕ → Judged
+markers_of (Ok origin) room = fitting origin.colour.count room
+markers_of (Err refusal) room = Err refusal
 
 -- The lent output after it (01, Refusal numbers).
-unfoldable pub markers_into : EventOrigin → List ℕ → List ℕ
+unfoldable pub markers_into : Result EventOrigin Refusal → List ℕ → List ℕ
 unfolding markers_of words_of
-markers_into o out = written (markers_of o (length out)) (words_of o.colour) out
+markers_into o out = written (markers_of o (length out)) (words_of (origin_colour o)) out
 
 -- The number for a copy of a persistent condition, or for an ordinary one, of which no marker and no user is looked at (01, Runs
 -- across).

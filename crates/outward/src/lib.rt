@@ -4,9 +4,10 @@
 ghost use Rattle.std.specs.Prelude.{◌≡◌, ◌<◌, length, get_or};
 ghost use Rattle.refusal.specs.Answer.{fitting, value_of, written};
 ghost use Rattle.unfolding.specs.Markers.{meant};
+ghost use Rattle.events.specs.Answers.{origin_event};
 ghost use Rattle.events.specs.Colours.{marker_at};
 ghost use Rattle.outward.specs.Told.{by_number, answer_of, value_or, given};
-ghost use Rattle.outward.specs.Origins.{origin_answer, condition_or, copy_or, marker_or, user_or};
+ghost use Rattle.outward.specs.Origins.{condition_or, copy_or, marker_or, user_or};
 ghost use Rattle.outward.specs.Words.{start_word, word_of, marker_of, colour_for, words_of, markers_of, markers_into, condition_for};
 
 use conditions::ConditionOrigin;
@@ -31,54 +32,52 @@ fn by_number(by: Option<Condition>) -> u64
 {
     match by {
         None => 0,
-        Some(Condition::Table(b)) => b.0 as u64,
-        Some(Condition::Unfolded(b)) => b.0 as u64,
+        Some(condition) => condition.number() as u64,
     }
 }
 
 // An answer told to C.
-pub fn told(judged: Result<usize, Refusal>) -> Answer
-    ensures { result ≡ answer_of judged }
+#[tactic(auto, unfolding(crate::specs::Told::answer_of))]
+pub fn told<T: Copy>(answer: Result<T, Refusal>) -> Answer
+    ensures { result ≡ answer_of answer }
 {
-    Answer {
-        number: refusal::number_of(judged) as u64,
-        place: refusal::place_of(judged) as u64,
-        by: by_number(refusal::by_of(judged)),
+    match answer {
+        Ok(_) => Answer {
+            number: 0,
+            place: 0,
+            by: 0,
+        },
+        Err(refusal) => Answer {
+            number: refusal.number as u64,
+            place: refusal.place as u64,
+            by: by_number(refusal.by),
+        },
     }
 }
 
 // The value of an answer, put where the call worked.
+#[tactic(auto, unfolding(crate::specs::Told::value_or))]
 pub fn put_value(judged: Result<usize, Refusal>, value: &mut u64)
     ensures { value.new ≡ value_or judged value.old }
 {
-    let Ok(found) = judged else {
-        return;
-    };
-    *value = found as u64;
+    if let Ok(found) = judged {
+        *value = found as u64;
+    }
 }
 
 // The value of an answer that is a number of two bytes, likewise.
+#[tactic(auto, unfolding(crate::specs::Told::value_or))]
 pub fn put_number(judged: Result<usize, Refusal>, number: &mut u16)
     requires { value_of judged < 65536 }
     ensures { number.new ≡ value_or judged number.old }
 {
-    let Ok(found) = judged else {
-        return;
-    };
-    *number = found as u16;
-}
-
-// The number of an event, put where the call worked.
-pub fn put_event(judged: Result<usize, Refusal>, event: TableEvent, number: &mut u16)
-    ensures { number.new ≡ given judged event.0 number.old }
-{
-    let Ok(_) = judged else {
-        return;
-    };
-    *number = event.0;
+    if let Ok(found) = judged {
+        *number = found as u16;
+    }
 }
 
 // The marker that a number says.
+#[tactic(auto, unfolding(crate::specs::Words::marker_of))]
 pub fn marker_of(word: u32) -> Marker
     ensures { result ≡ marker_of word }
 {
@@ -102,6 +101,7 @@ pub fn word_of(marker: Marker) -> u32
 }
 
 // The number at a place of a list, and the one for the start past its end.
+#[tactic(auto, using(crate::proofs::Markers::read_with))]
 fn word_at(words: &[u32], i: usize) -> u32
     ensures { result ≡ get_or words.now i start_word }
 {
@@ -152,17 +152,28 @@ fn write_markers(colour: Colour, out: &mut [u32]) -> Result<usize, Refusal>
     Ok(count)
 }
 
-// The markers of an origin written to a lent output; fine: how many.
-pub fn put_markers(origin: EventOrigin, out: &mut [u32]) -> Result<usize, Refusal>
-    ensures answer { result ≡ markers_of origin (length out.old) }
-    ensures after { out.new ≡ markers_into origin out.old }
+// The event and the markers behind an unfolded event, put where there is one and the lent output has room; fine: how many markers.
+#[tactic(auto, unfolding(crate::specs::Told::value_or, crate::specs::Told::given, crate::specs::Words::markers_of, crate::specs::Words::markers_into))]
+pub fn put_event_origin(
+    origin: Result<EventOrigin, Refusal>,
+    markers: &mut [u32],
+    event: &mut u16,
+    count: &mut u64,
+) -> Result<usize, Refusal>
+    ensures answer { result ≡ markers_of origin (length markers.old) }
+    ensures after { markers.new ≡ markers_into origin markers.old }
+    ensures behind { event.new ≡ given result (origin_event origin) event.old }
+    ensures many { count.new ≡ value_or result count.old }
 {
-    origin.answer?;
-    let colour = origin.colour;
-    write_markers(colour, out)
+    let found = origin?;
+    let many = write_markers(found.colour, markers)?;
+    *event = found.event.0;
+    *count = many as u64;
+    Ok(many)
 }
 
 // The number for an ordinary condition, or for a copy of a persistent one.
+#[tactic(auto, unfolding(crate::specs::Words::condition_for))]
 pub fn condition_number(
     table: &[u8],
     b: TableCondition,
@@ -178,69 +189,30 @@ pub fn condition_number(
     condition_numbers::ordinary_number(table, b)
 }
 
-// An origin as an answer.
-pub fn origin_answer(origin: ConditionOrigin) -> Result<usize, Refusal>
-    ensures { result ≡ origin_answer origin }
+// The condition behind an unfolded one and whether that is a copy, put where there is one; of a copy its marker and its user too.
+pub fn put_condition_origin(
+    origin: Result<ConditionOrigin, Refusal>,
+    condition: &mut u16,
+    copy: &mut bool,
+    marker: &mut u32,
+    user: &mut u16,
+)
+    ensures behind { condition.new ≡ condition_or origin condition.old }
+    ensures copied { copy.new ≡ copy_or origin copy.old }
+    ensures marked { marker.new ≡ marker_or origin marker.old }
+    ensures used { user.new ≡ user_or origin user.old }
 {
     match origin {
-        ConditionOrigin::Ordinary(_) => Ok(0),
-        ConditionOrigin::Copy(_, _, _) => Ok(0),
-        ConditionOrigin::Refused(refusal) => Err(refusal),
-    }
-}
-
-// The condition behind an unfolded one, put where there is one.
-pub fn put_condition(origin: ConditionOrigin, condition: &mut u16)
-    ensures { condition.new ≡ condition_or origin condition.old }
-{
-    match origin {
-        ConditionOrigin::Ordinary(b) => {
+        Ok(ConditionOrigin::Ordinary(b)) => {
             *condition = b.0;
-        }
-        ConditionOrigin::Copy(b, _, _) => {
-            *condition = b.0;
-        }
-        ConditionOrigin::Refused(_) => {}
-    }
-}
-
-// Whether it is a copy of a persistent condition, likewise.
-pub fn put_copy(origin: ConditionOrigin, copy: &mut bool)
-    ensures { copy.new ≡ copy_or origin copy.old }
-{
-    match origin {
-        ConditionOrigin::Ordinary(_) => {
             *copy = false;
         }
-        ConditionOrigin::Copy(_, _, _) => {
+        Ok(ConditionOrigin::Copy(b, m, u)) => {
+            *condition = b.0;
             *copy = true;
-        }
-        ConditionOrigin::Refused(_) => {}
-    }
-}
-
-// The marker of a copy, put where it is one.
-pub fn put_marker(origin: ConditionOrigin, marker: &mut u32)
-    ensures { marker.new ≡ marker_or origin marker.old }
-{
-    match origin {
-        ConditionOrigin::Ordinary(_) => {}
-        ConditionOrigin::Copy(_, m, _) => {
             *marker = word_of(m);
-        }
-        ConditionOrigin::Refused(_) => {}
-    }
-}
-
-// The user of a copy, likewise.
-pub fn put_user(origin: ConditionOrigin, user: &mut u16)
-    ensures { user.new ≡ user_or origin user.old }
-{
-    match origin {
-        ConditionOrigin::Ordinary(_) => {}
-        ConditionOrigin::Copy(_, _, u) => {
             *user = u.0;
         }
-        ConditionOrigin::Refused(_) => {}
+        Err(_) => {}
     }
 }
