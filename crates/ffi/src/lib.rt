@@ -1,8 +1,7 @@
 // The calls that include/dovetrellis.h declares for C: each hands on what it is given and tells the answer. The crate ffi_c exports them.
 #![tactic(auto)]
 
-ghost use Rattle.std.specs.Prelude.{◌≡◌, true, false, length};
-ghost use Rattle.std.specs.Prelude.{Ok};
+ghost use Rattle.std.specs.Prelude.{◌≡◌, true, false, length, Ok};
 ghost use Rattle.refusal.specs.Answer.{and_then};
 ghost use Rattle.model.specs.Unfolding.{basic};
 ghost use Rattle.table.specs.Walk.{judge_of};
@@ -14,7 +13,7 @@ ghost use Rattle.exchange.specs.Calls.{exchange_of, exchanged_of};
 ghost use Rattle.runs.specs.Runs.{run_kind, lifted_kind, read_answer, run_into};
 ghost use Rattle.writing.specs.Writing.{write_answer, record_into};
 ghost use Rattle.layout.specs.Unfolds.{unfolding_of};
-ghost use Rattle.events.specs.Answers.{origin_of};
+ghost use Rattle.events.specs.Answers.{origin_of, origin_event};
 ghost use Rattle.event_numbers.specs.Answers.{number_of};
 ghost use Rattle.conditions.specs.Origins.{condition_origin_of};
 ghost use Rattle.starting.specs.Calls.{unfolded_start_of, unfolded_started_of};
@@ -25,7 +24,7 @@ ghost use Rattle.lift.specs.Calls.{lift_of, lifted_of};
 ghost use Rattle.project.specs.Calls.{project_of, projected_of};
 ghost use Rattle.elements.specs.Calls.{element_count_of, element_of, element_written_of};
 ghost use Rattle.ends.specs.Calls.{unfolded_replay_of, unfolded_replayed_of, lift_end_of, lift_ended_of};
-ghost use Rattle.outward.specs.Origins.{origin_answer, condition_or, copy_or, marker_or, user_or};
+ghost use Rattle.outward.specs.Origins.{condition_or, copy_or, marker_or, user_or};
 ghost use Rattle.outward.specs.Told.{answer_of, value_or, given};
 ghost use Rattle.outward.specs.Words.{colour_for, markers_of, markers_into, condition_for};
 
@@ -134,18 +133,15 @@ pub fn dovetrellis_event_origin(
 ) -> Answer
     ensures answer { result ≡ answer_of (markers_of (origin_of table.now unfolded) (length markers.old)) }
     ensures after { markers.new ≡ markers_into (origin_of table.now unfolded) markers.old }
-    ensures behind { event.new ≡ given (markers_of (origin_of table.now unfolded) (length markers.old)) (origin_of table.now unfolded).event.0 event.old }
+    ensures behind { event.new ≡ given (markers_of (origin_of table.now unfolded) (length markers.old)) (origin_event (origin_of table.now unfolded)) event.old }
     ensures many { count.new ≡ value_or (markers_of (origin_of table.now unfolded) (length markers.old)) count.old }
 {
     let origin = events::event_origin(table, UnfoldedEvent(unfolded));
-    let judged = outward::put_markers(origin, markers);
-    let behind = origin.event;
-    outward::put_event(judged, behind, event);
-    outward::put_value(judged, count);
-    outward::told(judged)
+    outward::told(outward::put_event_origin(origin, markers, event, count))
 }
 
 // The unfolded event for an event and markers.
+#[tactic(auto, using(outward::proofs::Small::number_small))]
 pub fn dovetrellis_event_number(
     table: &[u8],
     event: u16,
@@ -170,21 +166,19 @@ pub fn dovetrellis_condition_origin(
     marker: &mut u32,
     user: &mut u16,
 ) -> Answer
-    ensures answer { result ≡ answer_of (origin_answer (condition_origin_of table.now unfolded)) }
+    ensures answer { result ≡ answer_of (condition_origin_of table.now unfolded) }
     ensures behind { condition.new ≡ condition_or (condition_origin_of table.now unfolded) condition.old }
     ensures copied { copy.new ≡ copy_or (condition_origin_of table.now unfolded) copy.old }
     ensures marked { marker.new ≡ marker_or (condition_origin_of table.now unfolded) marker.old }
     ensures used { user.new ≡ user_or (condition_origin_of table.now unfolded) user.old }
 {
     let origin = conditions::condition_origin(table, UnfoldedCondition(unfolded));
-    outward::put_condition(origin, condition);
-    outward::put_copy(origin, copy);
-    outward::put_marker(origin, marker);
-    outward::put_user(origin, user);
-    outward::told(outward::origin_answer(origin))
+    outward::put_condition_origin(origin, condition, copy, marker, user);
+    outward::told(origin)
 }
 
 // The unfolded condition for an ordinary condition, or for a persistent one with a marker and a user.
+#[tactic(auto, using(outward::proofs::Small::condition_small))]
 pub fn dovetrellis_condition_number(
     table: &[u8],
     condition: u16,

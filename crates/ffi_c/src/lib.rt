@@ -2,8 +2,7 @@
 // promise it states again. A crate is a library or a static library, not both, so ffi itself exports nothing.
 #![tactic(auto)]
 
-ghost use Rattle.std.specs.Prelude.{◌≡◌, true, false, length};
-ghost use Rattle.std.specs.Prelude.{Ok};
+ghost use Rattle.std.specs.Prelude.{◌≡◌, true, false, length, Ok};
 ghost use Rattle.refusal.specs.Answer.{and_then};
 ghost use Rattle.model.specs.Unfolding.{basic};
 ghost use Rattle.table.specs.Walk.{judge_of};
@@ -15,7 +14,7 @@ ghost use Rattle.exchange.specs.Calls.{exchange_of, exchanged_of};
 ghost use Rattle.runs.specs.Runs.{run_kind, lifted_kind, read_answer, run_into};
 ghost use Rattle.writing.specs.Writing.{write_answer, record_into};
 ghost use Rattle.layout.specs.Unfolds.{unfolding_of};
-ghost use Rattle.events.specs.Answers.{origin_of};
+ghost use Rattle.events.specs.Answers.{origin_of, origin_event};
 ghost use Rattle.event_numbers.specs.Answers.{number_of};
 ghost use Rattle.conditions.specs.Origins.{condition_origin_of};
 ghost use Rattle.starting.specs.Calls.{unfolded_start_of, unfolded_started_of};
@@ -26,7 +25,7 @@ ghost use Rattle.lift.specs.Calls.{lift_of, lifted_of};
 ghost use Rattle.project.specs.Calls.{project_of, projected_of};
 ghost use Rattle.elements.specs.Calls.{element_count_of, element_of, element_written_of};
 ghost use Rattle.ends.specs.Calls.{unfolded_replay_of, unfolded_replayed_of, lift_end_of, lift_ended_of};
-ghost use Rattle.outward.specs.Origins.{origin_answer, condition_or, copy_or, marker_or, user_or};
+ghost use Rattle.outward.specs.Origins.{condition_or, copy_or, marker_or, user_or};
 ghost use Rattle.outward.specs.Told.{answer_of, value_or, given};
 ghost use Rattle.outward.specs.Words.{colour_for, markers_of, markers_into, condition_for};
 
@@ -149,7 +148,7 @@ pub extern "C" fn dovetrellis_event_origin(
 ) -> Answer
     ensures answer { result ≡ answer_of (markers_of (origin_of table.now unfolded) (length markers.old)) }
     ensures after { markers.new ≡ markers_into (origin_of table.now unfolded) markers.old }
-    ensures behind { event.new ≡ given (markers_of (origin_of table.now unfolded) (length markers.old)) (origin_of table.now unfolded).event.0 event.old }
+    ensures behind { event.new ≡ given (markers_of (origin_of table.now unfolded) (length markers.old)) (origin_event (origin_of table.now unfolded)) event.old }
     ensures many { count.new ≡ value_or (markers_of (origin_of table.now unfolded) (length markers.old)) count.old }
 {
     ffi::dovetrellis_event_origin(table, unfolded, markers, event, count)
@@ -179,7 +178,7 @@ pub extern "C" fn dovetrellis_condition_origin(
     marker: &mut u32,
     user: &mut u16,
 ) -> Answer
-    ensures answer { result ≡ answer_of (origin_answer (condition_origin_of table.now unfolded)) }
+    ensures answer { result ≡ answer_of (condition_origin_of table.now unfolded) }
     ensures behind { condition.new ≡ condition_or (condition_origin_of table.now unfolded) condition.old }
     ensures copied { copy.new ≡ copy_or (condition_origin_of table.now unfolded) copy.old }
     ensures marked { marker.new ≡ marker_or (condition_origin_of table.now unfolded) marker.old }
