@@ -1,9 +1,7 @@
 -- What a line of the worked examples says of the calls: their answers on the bytes of a table, and what they leave in lent memory that
 -- has just the room for it.
-use Rattle.std.specs.Prelude.{◌≡◌, true, false, List, ℕ, length, replicate}
+use Rattle.std.specs.Prelude.{◌≡◌, true, false, List, ℕ, length, replicate, Ok, Some}
 use Rattle.model.specs.Unfolding.{basic}
-use Rattle.std.specs.Prelude.{Ok}
-use Rattle.std.specs.Prelude.{Some}
 use Rattle.refusal.specs.declared.Condition.TheVariants.{Table}
 use Rattle.refusal.specs.Answer.{refused_at, refused_by}
 use Rattle.table.specs.Decoded.{net_of}
@@ -12,7 +10,7 @@ use Rattle.replay.specs.Calls.{replay_of, end_of}
 use Rattle.exchange.specs.Calls.{exchange_of, exchanged_of}
 use Rattle.layout.specs.Unfolds.{unfolding_of}
 use Rattle.unfolded_lists.specs.Calls.{unfolded_list_of, unfolded_listed_of}
-use Rattle.events.specs.Answers.{origin_of}
+use Rattle.events.specs.Answers.{origin_of, origin_event}
 use Rattle.events.specs.Colours.{no_colour}
 use Rattle.event_numbers.specs.Answers.{number_of}
 use Rattle.lift.specs.Calls.{lift_of, lifted_of}
@@ -34,7 +32,7 @@ Lists s j a z =
 
 -- An unfolded event's number has this event behind it (01, Nets to test with).
 abbrev pub Behind : List ℕ → ℕ → ℕ → Type 0
-Behind s j e = (origin_of s j).event.0 ≡ e
+Behind s j e = origin_event (origin_of s j) ≡ e
 
 -- An event without markers has this unfolded number (01, Nets to test with).
 abbrev pub Numbered : List ℕ → ℕ → ℕ → Type 0
@@ -47,7 +45,7 @@ Concedes s m e = concession_of s m e ≡ Ok 0
 -- An event is stopped at a lent marking with this number by this condition, and nothing is fired (01, Nets to test with; 02, No. 2).
 abbrev pub Stops : List ℕ → List ℕ → ℕ → ℕ → ℕ → Type 0
 Stops s m e x b =
-    (concession_of s m e ≡ refused_by x b (Some ◄Table (record { 0 = b }))) × (fire_of s m e ≡ refused_by x b (Some ◄Table (record { 0 = b })))
+    (concession_of s m e ≡ refused_by x b (Some (Table (record { 0 = b })))) × (fire_of s m e ≡ refused_by x b (Some (Table (record { 0 = b }))))
     × (fired_of s m e ≡ m)
 
 -- An event is fired at a lent marking, which is this one afterwards (01, Nets to test with).
