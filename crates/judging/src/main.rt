@@ -4,13 +4,11 @@
 
 ghost use Rattle.std.specs.Prelude.{◌<◌};
 
-use refusal::Refusal;
 use std::io;
 
 // One line: the number of events, or the refusal's number and place.
 fn verdict(rt: &impl Print, table: &[u8]) -> io::Result<()> {
-    let r = table::judge(table);
-    match r {
+    match table::judge(table) {
         Ok(events) => {
             rt.write_all(b"fine ")?;
             rt.print(events as u64)?;

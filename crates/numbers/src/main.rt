@@ -17,24 +17,26 @@ fn is_number(r: Result<usize, Refusal>, j: usize) -> bool {
 
 // Whether an unfolded event's number comes back from its event and markers.
 fn event_back(table: &[u8], j: u16) -> bool {
-    let o = events::event_origin(table, UnfoldedEvent(j));
-    let e = o.event;
-    let c = o.colour;
-    is_number(event_numbers::event_number(table, e, c), j as usize)
+    match events::event_origin(table, UnfoldedEvent(j)) {
+        Ok(origin) => is_number(
+            event_numbers::event_number(table, origin.event, origin.colour),
+            j as usize,
+        ),
+        Err(_) => false,
+    }
 }
 
 // Whether an unfolded condition's number comes back from its condition, or from that with its marker and user.
 fn condition_back(table: &[u8], j: u16) -> bool {
-    let o = conditions::condition_origin(table, UnfoldedCondition(j));
-    match o {
-        ConditionOrigin::Ordinary(b) => is_number(
+    match conditions::condition_origin(table, UnfoldedCondition(j)) {
+        Ok(ConditionOrigin::Ordinary(b)) => is_number(
             condition_numbers::ordinary_number(table, b),
             j as usize,
         ),
-        ConditionOrigin::Copy(b, m, u) => {
+        Ok(ConditionOrigin::Copy(b, m, u)) => {
             is_number(condition_numbers::copy_number(table, b, m, u), j as usize)
         }
-        ConditionOrigin::Refused(_) => false,
+        Err(_) => false,
     }
 }
 
@@ -76,12 +78,12 @@ fn say_back(rt: &impl Print, table: &[u8], events: bool, skip: u8, count: usize)
 fn last(rt: &impl Print, table: &[u8], count: usize) -> io::Result<()> {
     if 0 < count {
         if count < 65537 {
-            let o = events::event_origin(table, UnfoldedEvent((count - 1) as u16));
-            let e = o.event;
-            rt.write_all(b", event ")?;
-            rt.print(e.0 as u64)?;
-            rt.write_all(b" is ")?;
-            rt.print((count - 1) as u64)?;
+            if let Ok(origin) = events::event_origin(table, UnfoldedEvent((count - 1) as u16)) {
+                rt.write_all(b", event ")?;
+                rt.print(origin.event.0 as u64)?;
+                rt.write_all(b" is ")?;
+                rt.print((count - 1) as u64)?;
+            }
         }
     }
     Ok(())
@@ -89,8 +91,7 @@ fn last(rt: &impl Print, table: &[u8], count: usize) -> io::Result<()> {
 
 // The line of a table that unfolds to so many conditions.
 fn unfolded(rt: &impl Print, table: &[u8], skip: u8, conditions: usize) -> io::Result<()> {
-    let r = unfolding::event_count(table);
-    let count = refusal::value_of(r);
+    let count = refusal::value_of(unfolding::event_count(table));
     rt.print(conditions as u64)?;
     rt.write_all(b" conditions")?;
     say_back(rt, table, false, skip, conditions)?;
@@ -107,8 +108,7 @@ fn net(rt: &impl Print, letter: u8, skip: u8, table: &[u8]) -> io::Result<()> {
     rt.write_all(b"net ")?;
     rt.write_all(&[letter])?;
     rt.write_all(b": ")?;
-    let r = unfolding::condition_count(table);
-    match r {
+    match unfolding::condition_count(table) {
         Ok(n) => unfolded(rt, table, skip, n),
         Err(refusal) => {
             rt.write_all(b"refused ")?;

@@ -4,19 +4,13 @@
 use refusal::{Condition, Refusal, TableEvent};
 use std::io;
 
-// The number of a condition that stopped a step.
-fn condition(rt: &impl Print, b: u16) -> io::Result<()> {
-    rt.write_all(b" by ")?;
-    rt.print(b as u64)
-}
-
-// What stopped a step, if a condition did.
+// The number of the condition that stopped a step, if one did.
 fn cause(rt: &impl Print, by: Option<Condition>) -> io::Result<()> {
-    match by {
-        None => Ok(()),
-        Some(Condition::Table(b)) => condition(rt, b.0),
-        Some(Condition::Unfolded(b)) => condition(rt, b.0),
+    if let Some(condition) = by {
+        rt.write_all(b" by ")?;
+        rt.print(condition.number() as u64)?;
     }
+    Ok(())
 }
 
 // One answer: the elements written, or the refusal with its place and the condition.
@@ -31,8 +25,7 @@ fn tell(rt: &impl Print, answer: Result<usize, Refusal>) -> io::Result<()> {
             rt.print(refusal.number as u64)?;
             rt.write_all(b" at ")?;
             rt.print(refusal.place as u64)?;
-            let by = refusal.by;
-            cause(rt, by)?;
+            cause(rt, refusal.by)?;
         }
     }
     Ok(())
