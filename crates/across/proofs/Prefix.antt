@@ -9,9 +9,8 @@ use lib.ListN.{length}
 use borrow.Author.Tests.{le-leb, lt-leb}
 use Rattle.model.specs.Across.{Refusal, Answer, run, refusal, unless, most_steps, too_long, unfolding_refused}
 use Rattle.refusal.specs.declared.Refusal as declared
-use Rattle.refusal.specs.Answer.{Judged}
+use Rattle.refusal.specs.Answer.{Judged, refused_at, need, and_then}
 use Rattle.std.specs.Prelude.{Ok, Err}
-use Rattle.refusal.specs.Answer.{refused_at, need, and_then}
 use Rattle.refusal.proofs.Chain.{never_both, then_fine, need_passes, need_refuses, fitting_fine}
 use Rattle.table.specs.Walk.{judge_of}
 use Rattle.table.specs.Decoded.{net_of}

@@ -1,8 +1,7 @@
 -- What a call on a run across answers: the model's answer, written into a lent output.
 use Rattle.std.specs.Prelude.{ℕ, List, [], length}
 use Rattle.model.specs.Across.{Answer, run, refusal, too_long, unfolding_refused}
-use Rattle.refusal.specs.Answer.{Judged}
-use Rattle.refusal.specs.Answer.{and_then, fitting}
+use Rattle.refusal.specs.Answer.{Judged, and_then, fitting}
 use Rattle.table.specs.Walk.{judge_of}
 use Rattle.table.specs.Decoded.{net_of}
 use Rattle.table.specs.Links.{refusing, refused_or}

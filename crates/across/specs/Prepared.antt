@@ -1,10 +1,8 @@
 -- What is kept of a table for a run across, and where a number lies between sums.
-use Rattle.std.specs.Prelude.{ℕ, ◌+◌, ◌≤◌, ◌<◌, ◌≡◌, List, leb, length, get_or}
+use Rattle.std.specs.Prelude.{ℕ, ◌+◌, ◌≤◌, ◌<◌, ◌≡◌, List, leb, length, get_or, Ok}
 use Rattle.model.specs.Numbering.{size}
 use Rattle.model.specs.Across.{most_steps, unfolding_refused}
-use Rattle.refusal.specs.Answer.{Judged}
-use Rattle.std.specs.Prelude.{Ok}
-use Rattle.refusal.specs.Answer.{need, and_then}
+use Rattle.refusal.specs.Answer.{Judged, need, and_then}
 use Rattle.table.specs.Walk.{judge_of}
 use Rattle.table.specs.Decoded.{net_of}
 use Rattle.table.specs.Links.{refused_or}

@@ -1,6 +1,5 @@
 -- An event found by its offset.
-use Rattle.std.specs.Prelude.{◌≡◌, List, ℕ, ◌<◌}
-use Rattle.std.specs.Prelude.{Ok}
+use Rattle.std.specs.Prelude.{◌≡◌, List, ℕ, ◌<◌, Ok}
 use Rattle.table.specs.Walk.{judge_of, offset_of}
 
 -- The record of an event of a judged table stands at an offset.

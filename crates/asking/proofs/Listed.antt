@@ -7,9 +7,8 @@ use Rattle.words.specs.Words.{words}
 use Rattle.model.specs.Net.{begin}
 use Rattle.model.specs.Lent.{bytes}
 use Rattle.refusal.specs.declared.Refusal.{Refusal}
-use Rattle.refusal.specs.Answer.{Judged}
+use Rattle.refusal.specs.Answer.{Judged, and_then, fitting, written}
 use Rattle.std.specs.Prelude.{Ok, Err}
-use Rattle.refusal.specs.Answer.{and_then, fitting, written}
 use Rattle.records.specs.Records.{conditions, pre_part, post_part}
 use Rattle.table.specs.Walk.{judge_of}
 use Rattle.parts.specs.Asked.{asked_of}

@@ -2,8 +2,7 @@
 use Rattle.std.specs.Prelude.{ℕ, List, length}
 use Rattle.model.specs.Net.{begin}
 use Rattle.model.specs.Lent.{bytes}
-use Rattle.refusal.specs.Answer.{Judged}
-use Rattle.refusal.specs.Answer.{and_then, fitting, written}
+use Rattle.refusal.specs.Answer.{Judged, and_then, fitting, written}
 use Rattle.table.specs.Walk.{judge_of}
 use Rattle.parts.specs.Asked.{asked_of}
 use Rattle.table.specs.Decoded.{net_of}

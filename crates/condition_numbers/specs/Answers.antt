@@ -1,12 +1,10 @@
 -- What the calls for an unfolded condition's number answer, after the prefix that all share.
-use Rattle.std.specs.Prelude.{ℕ, List, ltb}
+use Rattle.std.specs.Prelude.{ℕ, List, ltb, Ok}
 use Rattle.model.specs.Net.{Net}
 use Rattle.model.specs.Unfolding.{UnfoldedCondition, ordinary, copy, basic}
 use Rattle.model.specs.Numbering.{condition_number}
 use Rattle.refusal.specs.declared.Marker as declared
-use Rattle.refusal.specs.Answer.{Judged}
-use Rattle.std.specs.Prelude.{Ok}
-use Rattle.refusal.specs.Answer.{need}
+use Rattle.refusal.specs.Answer.{Judged, need}
 use Rattle.table.specs.Decoded.{net_of}
 use Rattle.layout.specs.Unfolds.{unfolding_of}
 use Rattle.unfolding.specs.Markers.{meant}

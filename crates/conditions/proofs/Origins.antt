@@ -19,9 +19,8 @@ use Rattle.model.specs.Numbering.{width, condition_count}
 use Rattle.model.proofs.Counts.{count_conditions, ordinary_from, copy_from}
 use Rattle.refusal.specs.declared.Refusal.{Refusal}
 use Rattle.refusal.specs.declared.Marker as declared
-use Rattle.refusal.specs.Answer.{Judged}
+use Rattle.refusal.specs.Answer.{Judged, refused_at, need}
 use Rattle.std.specs.Prelude.{Result, Ok, Err}
-use Rattle.refusal.specs.Answer.{refused_at, need}
 use Rattle.refusal.proofs.Chain.{need_passes, need_refuses}
 use Rattle.table.specs.Decoded.{net_of}
 use Rattle.table.proofs.Decoded.{conditions_are_all}

@@ -1,12 +1,10 @@
 -- The condition, marker and user behind an unfolded condition's number.
-use Rattle.std.specs.Prelude.{ℕ, List, ltb, get_or}
+use Rattle.std.specs.Prelude.{ℕ, List, ltb, get_or, Result, Ok, Err}
 use Rattle.std.proofs.Math.Option.{Option, none, some}
 use Rattle.model.specs.Net.{Net}
 use Rattle.model.specs.Unfolding.{UnfoldedCondition, ordinary, copy, unfolded_conditions, basic}
-use Rattle.refusal.specs.Answer.{Judged}
-use Rattle.std.specs.Prelude.{Result, Ok, Err}
+use Rattle.refusal.specs.Answer.{Judged, need}
 use Rattle.refusal.specs.declared.Refusal.{Refusal}
-use Rattle.refusal.specs.Answer.{need}
 use Rattle.table.specs.Decoded.{net_of}
 use Rattle.layout.specs.Unfolds.{unfolding_of}
 use Rattle.unfolding.specs.Markers.{shown, meant}

@@ -27,12 +27,10 @@ use Rattle.table.specs.Decoded.{net_of}
 use Rattle.tally.specs.Having.{Listed}
 use Rattle.table.proofs.Ruled.{rule_read}
 use Rattle.tally.proofs.Events.{judged, within_limits, list_read, list_ascends, list_inside}
-use Rattle.std.specs.Prelude.{Err}
+use Rattle.std.specs.Prelude.{Err, None, Some}
 use Rattle.stopping.specs.Causes.{goes}
 use Rattle.stopping.specs.declared.Cause.TheVariants.{Lacks, Meets}
-use Rattle.step.specs.Steps.{Failing}
-use Rattle.std.specs.Prelude.{None, Some}
-use Rattle.step.specs.Steps.{failing_of}
+use Rattle.step.specs.Steps.{Failing, failing_of}
 use Rattle.stopping.specs.Table.{step_of}
 use Rattle.decided.specs.Decided.{has_marked, ready, clear, stopped_by}
 use Rattle.decided.specs.Kept.{marker_at, kept_marker, ready_at, back_at, excused, clear_at, Deciding}

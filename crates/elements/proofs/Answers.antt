@@ -15,9 +15,8 @@ use Rattle.model.specs.Unfolding.{basic}
 use Rattle.model.specs.Numbering.{size}
 use Rattle.model.proofs.Lent.{length_bytes, bytes_at}
 use Rattle.refusal.specs.declared.Refusal.{Refusal}
-use Rattle.refusal.specs.Answer.{Judged}
+use Rattle.refusal.specs.Answer.{Judged, refused_at, value_of, need, fitting, written}
 use Rattle.std.specs.Prelude.{Result, Ok, Err, IsOk}
-use Rattle.refusal.specs.Answer.{refused_at, value_of, need, fitting, written}
 use Rattle.refusal.proofs.Chain.{never_both, ok_is, need_passes, need_refuses, fitting_room}
 use Rattle.records.specs.Records.{conditions}
 use Rattle.table.specs.Decoded.{net_of}

@@ -1,9 +1,7 @@
 -- What the calls of the export answer, and what they leave in a lent output.
-use Rattle.std.specs.Prelude.{ℕ, List, ltb, length, get_or}
+use Rattle.std.specs.Prelude.{ℕ, List, ltb, length, get_or, Ok}
 use Rattle.model.specs.Unfolding.{basic}
-use Rattle.refusal.specs.Answer.{Judged}
-use Rattle.std.specs.Prelude.{Ok}
-use Rattle.refusal.specs.Answer.{need, fitting, written}
+use Rattle.refusal.specs.Answer.{Judged, need, fitting, written}
 use Rattle.table.specs.Decoded.{net_of}
 use Rattle.layout.specs.Unfolds.{unfolding_of}
 use Rattle.pnml.specs.declared.Element.{Element}

@@ -1,9 +1,8 @@
 -- What the inner functions need and leave.
-use Rattle.std.specs.Prelude.{ℕ, ◌≤◌, ◌<◌, ◌≡◌, List, length, get_or}
+use Rattle.std.specs.Prelude.{ℕ, ◌≤◌, ◌<◌, ◌≡◌, List, length, get_or, Result, Ok, Err}
 use Rattle.model.specs.Net.{begin}
 use Rattle.model.specs.Lent.{bit}
 use Rattle.model.specs.Unfolding.{basic}
-use Rattle.std.specs.Prelude.{Result, Ok, Err}
 use Rattle.refusal.specs.declared.Refusal.{Refusal}
 use Rattle.refusal.specs.Answer.{Judged}
 use Rattle.table.specs.Decoded.{net_of}

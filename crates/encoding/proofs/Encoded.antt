@@ -19,10 +19,8 @@ use Rattle.model.specs.Unfolding.{reads}
 use Rattle.model.proofs.Lent.{length_bytes, bytes_at, bit_one}
 use Rattle.words.specs.Words.{word_at, words, bytes_of, bits, count_in}
 use Rattle.words.proofs.Laws.{length_bytes_of, words_bytes_of}
-use Rattle.refusal.specs.Answer.{Judged}
-use Rattle.std.specs.Prelude.{Ok}
-use Rattle.refusal.specs.Answer.{and_then}
-use Rattle.std.specs.Prelude.{Option}
+use Rattle.refusal.specs.Answer.{Judged, and_then}
+use Rattle.std.specs.Prelude.{Ok, Option}
 use Rattle.records.specs.declared.Header.{Header}
 use Rattle.records.specs.Records.{part, old_rule, front, conditions, flags, pre_count, post_count, pre_part, post_part, marking_part}
 use Rattle.records.proofs.Headers.{known}

@@ -7,8 +7,7 @@ use lib.ListN.{length, get_or, take, drop, length-drop, length-append}
 use lib.Seq.{get_or-drop, drop-drop, take_at, drop_at}
 use Rattle.words.specs.Words.{word_at, bytes_of}
 use Rattle.words.proofs.Laws.{two_bytes}
-use Rattle.records.specs.Records.{whole}
-use Rattle.records.specs.Records.{part, header_of}
+use Rattle.records.specs.Records.{whole, part, header_of}
 use Rattle.records.proofs.Headers.{header_whole}
 use Rattle.encoding.specs.Encoded.{framed}
 

@@ -17,9 +17,8 @@ use Rattle.model.proofs.Answers.{run_projecting}
 use Rattle.model.proofs.Copies.{marking_after, seen_after}
 use Rattle.model.proofs.Demands.{lift_project, lift_most}
 use Rattle.refusal.specs.declared.Refusal as declared
-use Rattle.refusal.specs.Answer.{Judged}
+use Rattle.refusal.specs.Answer.{Judged, and_then, fitting, written}
 use Rattle.std.specs.Prelude.{Ok, Err}
-use Rattle.refusal.specs.Answer.{and_then, fitting, written}
 use Rattle.refusal.proofs.Chain.{never_both, then_fine, fitting_room}
 use Rattle.table.specs.Walk.{judge_of}
 use Rattle.table.specs.Decoded.{net_of}

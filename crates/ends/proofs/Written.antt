@@ -9,9 +9,8 @@ use Rattle.model.specs.Net.{Net, Marking, begin}
 use Rattle.model.specs.Lent.{bytes, marking}
 use Rattle.model.specs.Unfolding.{basic}
 use Rattle.model.proofs.Lent.{length_bytes}
-use Rattle.refusal.specs.Answer.{Judged}
+use Rattle.refusal.specs.Answer.{Judged, refused_at, fitting, written}
 use Rattle.std.specs.Prelude.{Ok}
-use Rattle.refusal.specs.Answer.{refused_at, fitting, written}
 use Rattle.refusal.proofs.Chain.{fitting_room, fitting_short}
 use Rattle.table.specs.Decoded.{net_of}
 use Rattle.held.specs.Held.{tabled}

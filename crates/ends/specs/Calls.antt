@@ -5,8 +5,7 @@ use Rattle.model.specs.Net.{begin}
 use Rattle.model.specs.Runs.{end}
 use Rattle.model.specs.Unfolding.{basic}
 use Rattle.model.specs.Across.{lift, project}
-use Rattle.refusal.specs.Answer.{Judged}
-use Rattle.refusal.specs.Answer.{and_then, written}
+use Rattle.refusal.specs.Answer.{Judged, and_then, written}
 use Rattle.table.specs.Walk.{judge_of}
 use Rattle.table.specs.Decoded.{net_of}
 use Rattle.across.specs.Calls.{numbers_of, ended}

@@ -1,7 +1,6 @@
 -- What is needed to show an unfolded marking.
-use Rattle.std.specs.Prelude.{◌≡◌, List, ℕ}
+use Rattle.std.specs.Prelude.{◌≡◌, List, ℕ, Ok}
 use Rattle.model.specs.Lent.{bytes, marking}
-use Rattle.std.specs.Prelude.{Ok}
 use Rattle.table.specs.Walk.{judge_of}
 use Rattle.layout.specs.Laid.{Laid}
 

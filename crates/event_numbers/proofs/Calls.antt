@@ -13,16 +13,14 @@ use Rattle.words.specs.Words.{words}
 use Rattle.model.specs.Runs.{Marker}
 use Rattle.model.specs.Unfolding.{same_marker, markers, reads, basic}
 use Rattle.model.specs.Numbering.{number, ways, size}
-use Rattle.refusal.specs.Answer.{Judged}
-use Rattle.std.specs.Prelude.{Ok}
-use Rattle.refusal.specs.Answer.{refused_at}
+use Rattle.refusal.specs.Answer.{Judged, refused_at}
+use Rattle.std.specs.Prelude.{Ok, None, Some}
 use Rattle.refusal.proofs.Chain.{need_passes, need_refuses}
 use Rattle.table.specs.Walk.{offset_of}
 use Rattle.table.specs.Decoded.{net_of}
 use Rattle.tally.specs.Having.{list_part}
 use Rattle.layout.specs.Unfolds.{unfolding_of}
 use Rattle.events.specs.declared.Colour.{Colour}
-use Rattle.std.specs.Prelude.{None, Some}
 use Rattle.events.specs.Colours.{marker_at, colour_of}
 use Rattle.unfolding.specs.Numbers.{Within, all_mark}
 use Rattle.events.proofs.Calls.{inside, size_is}

@@ -25,8 +25,7 @@ use Rattle.events.specs.declared.Colour.{Colour}
 use Rattle.events.specs.Colours.{marker_at, colour_from, colour_of}
 use Rattle.unfolding.specs.Numbers.{choices_of, all_mark}
 use Rattle.unfolding.proofs.Places.{some_way}
-use Rattle.std.specs.Prelude.{Option}
-use Rattle.std.specs.Prelude.{None, Some}
+use Rattle.std.specs.Prelude.{Option, None, Some}
 use Rattle.event_numbers.specs.Weights.{weighed, Weighing}
 
 -- ---- a list of markers weighed

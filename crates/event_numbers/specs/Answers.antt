@@ -1,10 +1,8 @@
 -- What the call for an unfolded event's number answers, after the prefix that all share.
-use Rattle.std.specs.Prelude.{ℕ, List, ltb}
+use Rattle.std.specs.Prelude.{ℕ, List, ltb, Ok}
 use Rattle.model.specs.Unfolding.{basic}
 use Rattle.model.specs.Numbering.{number}
-use Rattle.refusal.specs.Answer.{Judged}
-use Rattle.std.specs.Prelude.{Ok}
-use Rattle.refusal.specs.Answer.{need}
+use Rattle.refusal.specs.Answer.{Judged, need}
 use Rattle.table.specs.Decoded.{net_of}
 use Rattle.layout.specs.Unfolds.{unfolding_of}
 use Rattle.events.specs.declared.Colour.{Colour}

@@ -1,12 +1,10 @@
 -- What the walk down a list of preconditions needs and tells: what a list of markers comes to.
-use Rattle.std.specs.Prelude.{ℕ, ◌≤◌, ◌<◌, cond, List, T}
+use Rattle.std.specs.Prelude.{ℕ, ◌≤◌, ◌<◌, cond, List, T, Option, None, Some}
 use Rattle.lists.specs.Lists.{mem}
 use Rattle.model.specs.Runs.{Marker}
 use Rattle.model.specs.Numbering.{ways, radix}
 use Rattle.model.specs.Across.{most_unfolded}
 use Rattle.unfolding.specs.Numbers.{Within, choices_of, all_mark}
-use Rattle.std.specs.Prelude.{Option}
-use Rattle.std.specs.Prelude.{None, Some}
 
 -- What a list of markers comes to: the place among the colours, or that it is no colour (01, Unfolding).
 abbrev pub weighed : List (List Marker) → List Marker → Option ℕ

@@ -8,8 +8,7 @@ use Rattle.lists.specs.Lists.{fits}
 use Rattle.words.specs.Words.{words, count_in}
 use Rattle.std.specs.Prelude.{Ok}
 use Rattle.refusal.specs.Answer.{need}
-use Rattle.records.specs.Records.{whole}
-use Rattle.records.specs.Records.{header_of, conditions, flags, pre_count, post_count, pre_part, post_part}
+use Rattle.records.specs.Records.{whole, header_of, conditions, flags, pre_count, post_count, pre_part, post_part}
 use Rattle.event_rules.specs.EventRules.{lists_of, event_of}
 
 pub event_made : (s : List ℕ) (at len : ℕ) → header_of s at ≡ whole 2 len → 4 ≤ len → len ≡ 4 + 2 * (pre_count s at + post_count s at)

@@ -1,9 +1,7 @@
 -- What an Event record must be: its header, its length and its lists, with the number and place of each refusal.
-use Rattle.std.specs.Prelude.{ℕ, ◌+◌, ◌*◌, List, leb, eqb}
+use Rattle.std.specs.Prelude.{ℕ, ◌+◌, ◌*◌, List, leb, eqb, Ok}
 use Rattle.lists.specs.Lists.{fits}
-use Rattle.refusal.specs.Answer.{Judged}
-use Rattle.std.specs.Prelude.{Ok}
-use Rattle.refusal.specs.Answer.{need}
+use Rattle.refusal.specs.Answer.{Judged, need}
 use Rattle.words.specs.Words.{words, count_in}
 use Rattle.records.specs.Records.{header_of, when_whole, conditions, flags, pre_count, post_count, pre_part, post_part}
 

@@ -13,10 +13,9 @@ use Rattle.words.specs.Words.{words}
 use Rattle.model.specs.Runs.{Marker}
 use Rattle.model.specs.Unfolding.{UnfoldedEvent, markers, reads, origin, basic}
 use Rattle.model.specs.Numbering.{ways, digits, size, event_count}
-use Rattle.refusal.specs.Answer.{Judged}
+use Rattle.refusal.specs.Answer.{Judged, refused_at}
 use Rattle.std.specs.Prelude.{Result, Ok, Err}
 use Rattle.refusal.specs.declared.Refusal.{Refusal}
-use Rattle.refusal.specs.Answer.{refused_at}
 use Rattle.refusal.proofs.Chain.{need_passes, need_refuses}
 use Rattle.table.specs.Walk.{offset_of}
 use Rattle.table.specs.Decoded.{net_of}

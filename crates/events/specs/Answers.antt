@@ -1,10 +1,8 @@
 -- What the call on an unfolded event's number answers, after the prefix that all share.
-use Rattle.std.specs.Prelude.{ℕ, List, ltb, length}
+use Rattle.std.specs.Prelude.{ℕ, List, ltb, length, Result, Ok, Err}
 use Rattle.model.specs.Unfolding.{UnfoldedEvent, origin, basic}
-use Rattle.refusal.specs.Answer.{Judged}
-use Rattle.std.specs.Prelude.{Result, Ok, Err}
+use Rattle.refusal.specs.Answer.{Judged, need}
 use Rattle.refusal.specs.declared.Refusal.{Refusal}
-use Rattle.refusal.specs.Answer.{need}
 use Rattle.table.specs.Decoded.{net_of}
 use Rattle.layout.specs.Unfolds.{unfolding_of}
 use Rattle.events.specs.declared.Colour.{Colour}

@@ -17,9 +17,8 @@ use Rattle.model.specs.Across.{of_table, Refusal, Answer, run, unless, stuck, mo
 use Rattle.model.proofs.Firing.{runs_first, runs_rest, runs_cons, runs_event}
 use Rattle.model.proofs.Answers.{not_stuck, stuck_none, short_length, length_short}
 use Rattle.refusal.specs.declared.Refusal as table
-use Rattle.refusal.specs.Answer.{Judged}
+use Rattle.refusal.specs.Answer.{Judged, refused_at}
 use Rattle.std.specs.Prelude.{Result, Ok, Err, IsOk}
-use Rattle.refusal.specs.Answer.{refused_at}
 use Rattle.refusal.proofs.Chain.{never_both}
 use Rattle.table.specs.Walk.{judge_of}
 use Rattle.table.specs.Decoded.{net_of}

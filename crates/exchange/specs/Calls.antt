@@ -1,10 +1,8 @@
 -- What the exchange answers and what it leaves in the lent run, as functions of what it was given.
-use Rattle.std.specs.Prelude.{List, ℕ}
+use Rattle.std.specs.Prelude.{List, ℕ, Ok}
 use Rattle.model.specs.Exchange.{exchanged}
 use Rattle.model.specs.Across.{Answer, run, refusal, exchange}
-use Rattle.refusal.specs.Answer.{Judged}
-use Rattle.std.specs.Prelude.{Ok}
-use Rattle.refusal.specs.Answer.{and_then}
+use Rattle.refusal.specs.Answer.{Judged, and_then}
 use Rattle.table.specs.Walk.{judge_of}
 use Rattle.table.specs.Decoded.{net_of}
 use Rattle.table.specs.Links.{refusing}

@@ -1,9 +1,8 @@
 -- What the inner functions of the exchange need: a run that has the two steps.
-use Rattle.std.specs.Prelude.{◌≡◌, List, ℕ, suc, ◌≤◌, ◌<◌, T, length}
+use Rattle.std.specs.Prelude.{◌≡◌, List, ℕ, suc, ◌≤◌, ◌<◌, T, length, Ok}
 use Rattle.model.specs.Net.{begin}
 use Rattle.model.specs.Runs.{runs}
 use Rattle.model.specs.Across.{most_steps}
-use Rattle.std.specs.Prelude.{Ok}
 use Rattle.table.specs.Walk.{judge_of}
 use Rattle.table.specs.Decoded.{net_of}
 use Rattle.played.specs.Played.{Indexed}

@@ -13,8 +13,7 @@ use Rattle.unfolding.proofs.Numbered.{events_basic}
 use Rattle.arcs.specs.Arcs.{exported}
 use Rattle.arcs.proofs.Exported.{conditions_basic}
 use Rattle.spots.specs.declared.Spot.{Spot}
-use Rattle.std.specs.Prelude.{Option}
-use Rattle.std.specs.Prelude.{None, Some}
+use Rattle.std.specs.Prelude.{Option, None, Some}
 use Rattle.spots.specs.Spots.{arc_count, Spotted, Reads}
 use Rattle.export_places.specs.declared.Place as declared
 use Rattle.export_places.specs.declared.Place.TheVariants.{Opens, Place, Transition, Arc, Closes, Over}

@@ -1,11 +1,9 @@
 -- Where an export stands, kept by value, and which element that is.
-use Rattle.std.specs.Prelude.{ℕ, ◌+◌, ◌<◌, Bool, true, false, List}
+use Rattle.std.specs.Prelude.{ℕ, ◌+◌, ◌<◌, Bool, true, false, List, Option, None, Some}
 use Rattle.model.specs.Net.{Net}
 use Rattle.table.specs.Decoded.{net_of}
 use Rattle.arcs.specs.Arcs.{exported}
-use Rattle.std.specs.Prelude.{Option}
 use Rattle.spots.specs.declared.Spot.{Spot}
-use Rattle.std.specs.Prelude.{None, Some}
 use Rattle.spots.specs.Spots.{arc_count, Spotted}
 use Rattle.export_places.specs.declared.Place as declared
 use Rattle.export_places.specs.declared.Place.TheVariants.{Opens, Place, Transition, Arc, Closes, Over}

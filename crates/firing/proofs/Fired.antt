@@ -22,17 +22,14 @@ use Rattle.tally.proofs.Events.{judged}
 use Rattle.segments.specs.Ranges.{Owned}
 use Rattle.model.specs.Lent.{bit, bytes, marking}
 use Rattle.model.proofs.Lent.{bytes_are}
-use Rattle.std.specs.Prelude.{Ok}
+use Rattle.std.specs.Prelude.{Ok, Err}
 use Rattle.step.specs.Lent.{Lent}
 use Rattle.step.specs.Steps.{set_all, stepped}
 use Rattle.game.specs.Calls.{firing_stopped, leaves}
 use Rattle.step.proofs.Bytes.{lent_at}
 use Rattle.step.proofs.Firing.{length_all, all_at}
-use Rattle.stopping.specs.Unfolded.{Cause}
-use Rattle.stopping.specs.Unfolded.{Step}
-use Rattle.std.specs.Prelude.{Err}
+use Rattle.stopping.specs.Unfolded.{Cause, Step, step_of, answered_of}
 use Rattle.stopping.specs.Causes.{goes}
-use Rattle.stopping.specs.Unfolded.{step_of, answered_of}
 use Rattle.walking.specs.Steps.{stops, Summed}
 
 -- ---- the unfolded net

@@ -11,10 +11,9 @@ use Rattle.model.specs.Unfolding.{basic}
 use Rattle.model.specs.Across.{of_unfolding}
 use Rattle.model.specs.Numbering.{size, event_count}
 use Rattle.model.specs.Lent.{bytes, marking}
-use Rattle.refusal.specs.Answer.{Judged}
+use Rattle.refusal.specs.Answer.{Judged, refused_at}
 use Rattle.std.specs.Prelude.{Ok, Err}
 use Rattle.refusal.specs.declared.Refusal.{Refusal}
-use Rattle.refusal.specs.Answer.{refused_at}
 use Rattle.refusal.proofs.Chain.{never_both}
 use Rattle.records.specs.Records.{conditions}
 use Rattle.table.specs.Decoded.{net_of}
@@ -30,9 +29,8 @@ use Rattle.game.specs.Calls.{firing_stopped, leaves}
 use Rattle.step.specs.Steps.{stepped}
 use Rattle.step.proofs.Bytes.{lent_of}
 use Rattle.game.proofs.Marked.{wrong_length, byte_above, all_right, none_above}
-use Rattle.stopping.specs.Unfolded.{Step}
+use Rattle.stopping.specs.Unfolded.{Step, step_of, answered_of}
 use Rattle.firing.specs.Calls.{unfolded_fire_of, unfolded_fired_of}
-use Rattle.stopping.specs.Unfolded.{step_of, answered_of}
 use Rattle.firing.specs.Steps.{Lending}
 use Rattle.firing.proofs.Fired.{stops_past, answers, leaves_so}
 

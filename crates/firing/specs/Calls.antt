@@ -1,11 +1,10 @@
 -- What the firing of an unfolded event answers, and what it leaves of a lent unfolded marking.
-use Rattle.std.specs.Prelude.{ℕ, List}
+use Rattle.std.specs.Prelude.{ℕ, List, Ok}
 use Rattle.model.specs.Net.{fire, stopping}
 use Rattle.model.specs.Unfolding.{basic}
 use Rattle.model.specs.Across.{of_unfolding}
 use Rattle.model.specs.Lent.{bytes, marking}
 use Rattle.refusal.specs.Answer.{Judged}
-use Rattle.std.specs.Prelude.{Ok}
 use Rattle.table.specs.Decoded.{net_of}
 use Rattle.table.specs.Links.{refused_or}
 use Rattle.layout.specs.Unfolds.{unfolding_of}

@@ -1,8 +1,7 @@
 -- What a lent unfolded marking must be.
-use Rattle.std.specs.Prelude.{ℕ, ◌≡◌, List, length}
+use Rattle.std.specs.Prelude.{ℕ, ◌≡◌, List, length, Ok, Err}
 use Rattle.model.specs.Unfolding.{basic}
 use Rattle.refusal.specs.Answer.{Judged}
-use Rattle.std.specs.Prelude.{Ok, Err}
 use Rattle.refusal.specs.declared.Refusal.{Refusal}
 use Rattle.table.specs.Decoded.{net_of}
 use Rattle.layout.specs.Unfolds.{unfolding_of}

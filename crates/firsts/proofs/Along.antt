@@ -20,8 +20,7 @@ use Rattle.model.specs.Across.{marks_for_others, own_or_earliest, repeated}
 use Rattle.model.proofs.Firing.{runs_first, runs_rest, can_event}
 use Rattle.model.proofs.Laws.{marked, First, Reached}
 use Rattle.model.proofs.Copies.{reached_opening, reached_step}
-use Rattle.std.specs.Prelude.{Option as Perhaps}
-use Rattle.std.specs.Prelude.{None, Some}
+use Rattle.std.specs.Prelude.{Option as Perhaps, None, Some}
 use Rattle.std.specs.Option.{option_or}
 use Rattle.firsts.specs.declared.Walked.{Walked}
 use Rattle.firsts.specs.Firsts.{Slot, first_of, first_at, no_slots, repeat_of}

@@ -10,7 +10,7 @@ use Rattle.words.specs.Words.{words}
 use Rattle.model.specs.Runs.{at_start, by_event, marker, or_else}
 use Rattle.model.specs.Across.{marks_for_others}
 use Rattle.refusal.specs.declared.Marker.TheVariants.{Start, ByEvent}
-use Rattle.std.specs.Prelude.{Ok}
+use Rattle.std.specs.Prelude.{Ok, Option as Perhaps, None}
 use Rattle.records.specs.Records.{marking_part}
 use Rattle.table.specs.Walk.{judge_of, offset_of}
 use Rattle.table.specs.Decoded.{net_of}
@@ -20,8 +20,6 @@ use Rattle.tally.specs.Having.{list_part}
 use Rattle.tally.proofs.Events.{list_read, list_inside}
 use Rattle.layout.proofs.Limits.{flags_are}
 use Rattle.repeats.specs.Repeats.{Once}
-use Rattle.std.specs.Prelude.{Option as Perhaps}
-use Rattle.std.specs.Prelude.{None}
 use Rattle.firsts.specs.Firsts.{Slot, Inside, first_at, no_slots, mark_all}
 use Rattle.firsts.specs.Walks.{Walkable}
 use Rattle.firsts.proofs.Marking.{all_length, all_first}

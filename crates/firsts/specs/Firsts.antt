@@ -1,6 +1,5 @@
 -- First markers of the code beside the model's, and how they are set.
-use Rattle.std.specs.Prelude.{ℕ, ◌<◌, cond, List, [], ◌∷◌, T, get_or, set, replicate, None, Some}
-use Rattle.std.specs.Prelude.{Option as Perhaps}
+use Rattle.std.specs.Prelude.{ℕ, ◌<◌, cond, List, [], ◌∷◌, T, get_or, set, replicate, None, Some, Option as Perhaps}
 use Rattle.std.specs.Option.{option_or}
 use Rattle.std.proofs.Math.Option.{Option, none, some}
 use Rattle.lists.specs.Lists.{mem}

@@ -1,9 +1,8 @@
 -- What a walk along a run needs, and what it tells of the state that the run ends in.
-use Rattle.std.specs.Prelude.{ℕ, ◌<◌, ◌≡◌, Bool, false, List, T, length, get_or}
+use Rattle.std.specs.Prelude.{ℕ, ◌<◌, ◌≡◌, Bool, false, List, T, length, get_or, Ok}
 use Rattle.model.specs.Net.{Net, begin}
 use Rattle.model.specs.Runs.{runs, State, opening, after}
 use Rattle.model.specs.Across.{own_or_earliest, repeated}
-use Rattle.std.specs.Prelude.{Ok}
 use Rattle.table.specs.Walk.{judge_of}
 use Rattle.table.specs.Decoded.{net_of}
 use Rattle.played.specs.Played.{Indexed}

@@ -14,9 +14,8 @@ use Rattle.lists.proofs.Tests.{fits_ascends, fits_in, fits_of}
 use Rattle.model.specs.Net.{Marking, free, lacking, contact, fire, Stop, unknown, lacks, meets, stopping}
 use Rattle.model.specs.Across.{of_table, stopped}
 use Rattle.refusal.specs.declared.Refusal.{Refusal}
-use Rattle.refusal.specs.Answer.{Judged}
+use Rattle.refusal.specs.Answer.{Judged, need, and_then}
 use Rattle.std.specs.Prelude.{Ok, Err}
-use Rattle.refusal.specs.Answer.{need, and_then}
 use Rattle.refusal.proofs.Chain.{need_fine, goes_on}
 use Rattle.words.specs.Words.{words}
 use Rattle.records.specs.Records.{conditions, pre_part, post_part}
@@ -26,14 +25,12 @@ use Rattle.table.specs.Links.{refusing, refused_or}
 use Rattle.table.proofs.Walk.{accepted}
 use Rattle.table.proofs.Decoded.{net_judged, conditions_are_all}
 use Rattle.stopping.specs.declared.Cause.TheVariants.{Unknown}
-use Rattle.stopping.specs.Table.{Step}
-use Rattle.std.specs.Prelude.{Err}
+use Rattle.stopping.specs.Table.{Step, cause_of, step_of, stopped_at, answered_of}
 use Rattle.model.specs.Lent.{bytes, marking}
 use Rattle.step.specs.Lent.{Lent}
 use Rattle.step.specs.Tests.{Recorded}
 use Rattle.game.specs.Lent.{lent}
 use Rattle.step.specs.Steps.{lists_net, record_net, stepped}
-use Rattle.stopping.specs.Table.{cause_of, step_of, stopped_at, answered_of}
 use Rattle.game.specs.Calls.{on_marking, leaves, firing_stopped, firing_of, fired_of}
 use Rattle.game.specs.Ready.{ready_of}
 use Rattle.game.proofs.Marked.{on_then, on_fine}

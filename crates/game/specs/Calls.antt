@@ -1,11 +1,9 @@
 -- What each call answers and what it leaves in lent memory, as functions of what it was given.
 use Rattle.std.proofs.Math.Option.{Option, none, some}
-use Rattle.std.specs.Prelude.{List, ℕ}
+use Rattle.std.specs.Prelude.{List, ℕ, Ok, Err}
 use Rattle.model.specs.Net.{fire, Stop, stop_place, stopping}
 use Rattle.model.specs.Across.{Whose, of_table, Refusal, stopped}
-use Rattle.refusal.specs.Answer.{Judged}
-use Rattle.std.specs.Prelude.{Ok, Err}
-use Rattle.refusal.specs.Answer.{and_then}
+use Rattle.refusal.specs.Answer.{Judged, and_then}
 use Rattle.table.specs.Walk.{judge_of}
 use Rattle.table.specs.Decoded.{net_of}
 use Rattle.table.specs.Links.{refused_or}

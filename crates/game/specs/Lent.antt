@@ -1,8 +1,7 @@
 -- When a lent marking is refused.
 use Rattle.std.specs.Prelude.{List, ℕ, eqb, ltb, leb, length}
 use Rattle.lists.specs.Lists.{index}
-use Rattle.refusal.specs.Answer.{Judged}
-use Rattle.refusal.specs.Answer.{need}
+use Rattle.refusal.specs.Answer.{Judged, need}
 
 -- The index of the first byte above 1, or the length where there is none (01, Refusal numbers).
 abbrev pub first_above : List ℕ → ℕ

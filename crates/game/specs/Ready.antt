@@ -1,8 +1,6 @@
 -- What is judged before an event is tested, and what the judge of a lent marking needs.
-use Rattle.std.specs.Prelude.{List, ℕ, ◌≤◌, ◌<◌, ltb, length, get_or}
-use Rattle.refusal.specs.Answer.{Judged}
-use Rattle.std.specs.Prelude.{Ok}
-use Rattle.refusal.specs.Answer.{need}
+use Rattle.std.specs.Prelude.{List, ℕ, ◌≤◌, ◌<◌, ltb, length, get_or, Ok}
+use Rattle.refusal.specs.Answer.{Judged, need}
 use Rattle.table.specs.Walk.{offset_of}
 use Rattle.game.specs.Calls.{on_marking}
 

@@ -1,8 +1,7 @@
 // Concession and firing of a table's events over a lent marking, once both are judged.
 #![tactic(auto)]
 
-ghost use Rattle.std.specs.Prelude.{◌≡◌};
-ghost use Rattle.std.specs.Prelude.{Ok};
+ghost use Rattle.std.specs.Prelude.{◌≡◌, Ok};
 ghost use Rattle.game.specs.Lent.{first_above};
 ghost use Rattle.game.specs.Ready.{NoneAbove, ready_of};
 ghost use Rattle.game.specs.Calls.{on_marking, concession_of, fire_of, fired_of};

@@ -19,10 +19,9 @@ use Rattle.refusal.specs.declared.Marker as declared
 use Rattle.refusal.specs.declared.Marker.TheVariants.{Start, ByEvent}
 use Rattle.refusal.specs.declared.TableCondition.{TableCondition}
 use Rattle.refusal.specs.declared.TableEvent.{TableEvent}
-use Rattle.refusal.specs.Answer.{Judged}
+use Rattle.refusal.specs.Answer.{Judged, need}
 use Rattle.std.specs.Prelude.{Result, Ok, Err}
 use Rattle.refusal.specs.declared.Refusal.{Refusal}
-use Rattle.refusal.specs.Answer.{need}
 use Rattle.refusal.proofs.Chain.{need_passes, need_fine, ok_is}
 use Rattle.table.specs.Decoded.{net_of}
 use Rattle.layout.specs.Unfolds.{unfolding_of}

@@ -15,9 +15,8 @@ use Rattle.model.specs.Unfolding.{UnfoldedEvent, markers, reads, unfolded_events
 use Rattle.model.specs.Numbering.{same_event, number}
 use Rattle.model.proofs.Unfolded.{Each, choices_each, colour_out, origin_in}
 use Rattle.model.proofs.Numbers.{same_event_eq}
-use Rattle.refusal.specs.Answer.{Judged}
+use Rattle.refusal.specs.Answer.{Judged, need}
 use Rattle.std.specs.Prelude.{Result, Ok, Err}
-use Rattle.refusal.specs.Answer.{need}
 use Rattle.refusal.proofs.Chain.{need_passes, need_fine, never_both, ok_is}
 use Rattle.table.specs.Decoded.{net_of}
 use Rattle.table.specs.Tabled.{Tabled}

@@ -11,9 +11,8 @@ use Rattle.model.specs.Net.{Net}
 use Rattle.model.specs.Numbering.{size, width, condition_count, event_count}
 use Rattle.model.specs.Across.{Refusal, other, most_unfolded, within, lowest_idle, idle_or_over, unfolding_refused}
 use Rattle.refusal.specs.declared.Refusal as declared
-use Rattle.refusal.specs.Answer.{Judged}
+use Rattle.refusal.specs.Answer.{Judged, refused_at, and_then}
 use Rattle.std.specs.Prelude.{Ok, Err}
-use Rattle.refusal.specs.Answer.{refused_at, and_then}
 use Rattle.refusal.proofs.Chain.{never_both, then_fine}
 use Rattle.records.specs.Records.{conditions}
 use Rattle.table.specs.Walk.{judge_of}

@@ -1,13 +1,11 @@
 -- What the unfolding counts of a table, read from its flags and from the numbers of markers and users: all colours, copies, idle events.
-use Rattle.std.specs.Prelude.{ℕ, ◌*◌, Bool, ◌&&◌, cond, List, eqb, get_or}
+use Rattle.std.specs.Prelude.{ℕ, ◌*◌, Bool, ◌&&◌, cond, List, eqb, get_or, Ok}
 use Rattle.std.proofs.Math.Option.{Option, none, some}
 use Rattle.lists.specs.Lists.{all, empty, sum}
 use Rattle.model.specs.Net.{Net}
 use Rattle.model.specs.Numbering.{size}
 use Rattle.model.specs.Across.{lowest_idle}
-use Rattle.refusal.specs.Answer.{Judged}
-use Rattle.std.specs.Prelude.{Ok}
-use Rattle.refusal.specs.Answer.{refused_at}
+use Rattle.refusal.specs.Answer.{Judged, refused_at}
 use Rattle.colours.specs.Colours.{flagged, capped}
 
 -- The numbers of colours of all events, each capped, in one sum (01, Unfolding).

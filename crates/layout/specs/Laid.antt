@@ -1,10 +1,9 @@
 -- The numbers that a call on the unfolding keeps of a table: markers, users, and the sums before each condition.
-use Rattle.std.specs.Prelude.{ℕ, ◌≤◌, true, false, List, ◌≡◌, length, get_or}
+use Rattle.std.specs.Prelude.{ℕ, ◌≤◌, true, false, List, ◌≡◌, length, get_or, Ok}
 use Rattle.lists.specs.Lists.{sum}
 use Rattle.model.specs.Numbering.{width, condition_count, event_count}
 use Rattle.model.specs.Across.{most_unfolded}
 use Rattle.refusal.specs.Answer.{Judged}
-use Rattle.std.specs.Prelude.{Ok}
 use Rattle.table.specs.Decoded.{net_of}
 use Rattle.table.specs.Tabled.{Tabled}
 use Rattle.tally.specs.Having.{Tally}

@@ -1,8 +1,7 @@
 -- The prefix that all calls on the unfolding share: the table's refusals, then 13, then 14.
 use Rattle.std.specs.Prelude.{ℕ, List}
 use Rattle.model.specs.Across.{unfolding_refused}
-use Rattle.refusal.specs.Answer.{Judged}
-use Rattle.refusal.specs.Answer.{and_then}
+use Rattle.refusal.specs.Answer.{Judged, and_then}
 use Rattle.table.specs.Walk.{judge_of}
 use Rattle.table.specs.Decoded.{net_of}
 use Rattle.table.specs.Links.{refused_or}

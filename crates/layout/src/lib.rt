@@ -2,11 +2,10 @@
 // refuse with 13 and 14.
 #![tactic(auto)]
 
-ghost use Rattle.std.specs.Prelude.{◌≡◌, ◌≤◌, length};
+ghost use Rattle.std.specs.Prelude.{◌≡◌, ◌≤◌, length, Ok};
 ghost use Rattle.words.specs.Words.{words};
 ghost use Rattle.table.specs.Decoded.{net_of};
 ghost use Rattle.table.specs.Walk.{judge_of};
-ghost use Rattle.std.specs.Prelude.{Ok};
 ghost use Rattle.model.specs.Numbering.{width};
 ghost use Rattle.records.specs.Records.{conditions};
 ghost use Rattle.layout.specs.Counts.{width_at, idle_at, events_of};

@@ -1,8 +1,7 @@
 -- What the lift of a run answers and leaves in lent memory.
 use Rattle.std.specs.Prelude.{ℕ, List, length}
 use Rattle.model.specs.Across.{lift}
-use Rattle.refusal.specs.Answer.{Judged}
-use Rattle.refusal.specs.Answer.{and_then, written}
+use Rattle.refusal.specs.Answer.{Judged, and_then, written}
 use Rattle.table.specs.Walk.{judge_of}
 use Rattle.table.specs.Decoded.{net_of}
 use Rattle.across.specs.Calls.{fitted, numbers_of}

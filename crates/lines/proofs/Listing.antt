@@ -14,9 +14,8 @@ use Rattle.model.proofs.Answers.{unless_run, not_stuck}
 use Rattle.model.proofs.Limits.{unfolds_exactly, within_exactly}
 use Rattle.model.proofs.Demands.{lift_project, lift_lifts, lift_length, lift_most}
 use Rattle.refusal.specs.declared.Refusal.{Refusal}
-use Rattle.refusal.specs.Answer.{Judged}
+use Rattle.refusal.specs.Answer.{Judged, condition_of, and_then}
 use Rattle.std.specs.Prelude.{Result, Ok, Err}
-use Rattle.refusal.specs.Answer.{condition_of, and_then}
 use Rattle.refusal.proofs.Chain.{fitting_room}
 use Rattle.table.specs.Walk.{judge_of}
 use Rattle.table.specs.Decoded.{net_of}

@@ -12,8 +12,7 @@ use Rattle.model.specs.Net.{Net, Stop, stopping, fire}
 use Rattle.model.specs.Lent.{bytes, marking}
 use Rattle.model.specs.Across.{most_unfolded}
 use Rattle.model.proofs.Lent.{length_bytes}
-use Rattle.refusal.specs.Answer.{Judged}
-use Rattle.refusal.specs.Answer.{value_of, written}
+use Rattle.refusal.specs.Answer.{Judged, value_of, written}
 use Rattle.table.specs.Decoded.{net_of}
 use Rattle.table.proofs.Walk.{accepted}
 use Rattle.step.specs.Lent.{Lent}

@@ -3,9 +3,8 @@ use Prim.Native.Nat.{ℕ, ◌≤◌, ◌<◌}
 use native.Mathlib.Omega.{arith}
 use mathlib.Core.Option.{none, some}
 use lib.ListN.{length, length-append}
-use Rattle.refusal.specs.Answer.{By}
+use Rattle.refusal.specs.Answer.{By, condition_of, condition_number}
 use Rattle.std.specs.Prelude.{None, Some, IfSome}
-use Rattle.refusal.specs.Answer.{condition_of, condition_number}
 use Rattle.spelling.proofs.Decimal.{twenty}
 use Rattle.listing.specs.Text.{by_words}
 

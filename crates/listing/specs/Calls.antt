@@ -2,8 +2,7 @@
 use Rattle.std.specs.Prelude.{List, [], ◌∷◌, ◌++◌, ℕ, ◌+◌, ◌-◌, min, leb, length}
 use Rattle.model.specs.Lent.{marking}
 use Rattle.model.specs.Across.{most_unfolded}
-use Rattle.refusal.specs.Answer.{Judged}
-use Rattle.refusal.specs.Answer.{condition_of, need, and_then, fitting}
+use Rattle.refusal.specs.Answer.{Judged, condition_of, need, and_then, fitting}
 use Rattle.table.specs.Walk.{judge_of}
 use Rattle.runs.specs.Runs.{run_kind, read_answer}
 use Rattle.listing.specs.declared.Piece.{Piece}

@@ -1,12 +1,10 @@
 -- The whole listing for the bytes of the two files.
-use Rattle.std.specs.Prelude.{List, [], ◌∷◌, ◌++◌, ℕ, suc}
+use Rattle.std.specs.Prelude.{List, [], ◌∷◌, ◌++◌, ℕ, suc, Ok, Err}
 use Rattle.model.specs.Net.{Net, Marking, begin, fire}
 use Rattle.model.specs.Runs.{end}
 use Rattle.model.specs.Unfolding.{basic}
 use Rattle.model.specs.Across as across
-use Rattle.refusal.specs.Answer.{Judged}
-use Rattle.std.specs.Prelude.{Ok, Err}
-use Rattle.refusal.specs.Answer.{condition_of}
+use Rattle.refusal.specs.Answer.{Judged, condition_of}
 use Rattle.table.specs.Decoded.{net_of}
 use Rattle.runs.specs.Runs.{run_of}
 use Rattle.listing.specs.Text.{holding, start_line, step_line, end_line, refused_line}

@@ -7,9 +7,8 @@ use Rattle.lists.specs.Lists.{mem}
 use Rattle.model.specs.Net.{Net, Stop, unknown, lacks, meets}
 use Rattle.model.specs.Numbering.{condition_number}
 use Rattle.refusal.specs.declared.TableCondition.{TableCondition}
-use Rattle.stopping.specs.Table.{Cause}
+use Rattle.stopping.specs.Table.{Cause, Step}
 use Rattle.stopping.specs.declared.Cause.TheVariants.{Unknown, Lacks, Meets}
-use Rattle.stopping.specs.Table.{Step}
 use Rattle.std.specs.Prelude.{Err}
 use Rattle.stopping.specs.Causes.{goes}
 use Rattle.stopping.specs.declared.Cause.TheVariants as unfolded

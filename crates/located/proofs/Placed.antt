@@ -18,10 +18,9 @@ use Rattle.table.specs.Decoded.{net_of}
 use Rattle.tally.specs.Having.{having}
 use Rattle.colours.specs.Colours.{flagged}
 use Rattle.layout.proofs.Counts.{user_place, uses_at}
-use Rattle.stopping.specs.Table.{Cause}
+use Rattle.stopping.specs.Table.{Cause, step_of}
 use Rattle.stopping.specs.declared.Cause.TheVariants.{Lacks, Meets}
 use Rattle.std.specs.Prelude.{Err}
-use Rattle.stopping.specs.Table.{step_of}
 use Rattle.decided.specs.Decided.{Picks, ready, clear, stopped_by, lacked_condition, met_condition}
 use Rattle.decided.specs.Kept.{marker_at}
 use Rattle.decided.proofs.Named.{not_clear, left, lacked_in, met_in}

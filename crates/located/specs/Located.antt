@@ -1,5 +1,5 @@
 -- What stops a step of the table, told by unfolded conditions: what is known where it is told, and the answer back as a stop.
-use Rattle.std.specs.Prelude.{ℕ, ◌≤◌, ◌<◌, ◌≡◌, true, false, not, ◌&&◌, cond, List, T, eqb, get_or}
+use Rattle.std.specs.Prelude.{ℕ, ◌≤◌, ◌<◌, ◌≡◌, true, false, not, ◌&&◌, cond, List, T, eqb, get_or, Ok, Err}
 use Rattle.std.proofs.Math.Option.{Option, none, some}
 use Rattle.lists.specs.Lists.{mem, all}
 use Rattle.model.specs.Net.{Net, Marking, Stop, unknown, lacks, meets}
@@ -8,11 +8,8 @@ use Rattle.model.specs.Numbering.{condition_count}
 use Rattle.model.specs.Across.{most_unfolded}
 use Rattle.table.specs.Decoded.{net_of}
 use Rattle.layout.specs.Laid.{Counted}
-use Rattle.stopping.specs.Table.{Cause}
+use Rattle.stopping.specs.Table.{Cause, Step, step_of}
 use Rattle.stopping.specs.declared.Cause.TheVariants.{Unknown, Lacks, Meets}
-use Rattle.stopping.specs.Table.{Step}
-use Rattle.std.specs.Prelude.{Ok, Err}
-use Rattle.stopping.specs.Table.{step_of}
 use Rattle.decided.specs.Decided.{Picks, Seen, given_back, stopped_by}
 use Rattle.decided.specs.Kept.{Kept}
 

@@ -1,7 +1,7 @@
 // What stops a step, turned from a condition of the table into the unfolded condition that it stands for; `locate` stands at the end.
 #![tactic(auto)]
 
-ghost use Rattle.std.specs.Prelude.{◌≡◌, false, ◌+◌, ◌*◌, ◌≤◌, ◌<◌, T, eqb};
+ghost use Rattle.std.specs.Prelude.{◌≡◌, false, ◌+◌, ◌*◌, ◌≤◌, ◌<◌, T, eqb, Err};
 ghost use Rattle.std.proofs.Math.Option.{some};
 ghost use Rattle.lists.specs.Lists.{mem, index, sum};
 ghost use Rattle.model.specs.Unfolding.{users};
@@ -10,7 +10,6 @@ ghost use Rattle.model.specs.Across.{most_unfolded};
 ghost use Rattle.table.specs.Decoded.{net_of};
 ghost use Rattle.layout.specs.Laid.{Counted};
 ghost use Rattle.tally.specs.Having.{having};
-ghost use Rattle.std.specs.Prelude.{Err};
 ghost use Rattle.stopping.specs.Unfolded.{step_of};
 ghost use Rattle.decided.specs.Decided.{lacked_condition, met_condition, unfolded_stop};
 ghost use Rattle.decided.specs.Kept.{marker_at};

@@ -8,9 +8,8 @@ use Rattle.model.specs.Net.{Net}
 use Rattle.model.specs.Lent.{bytes}
 use Rattle.model.proofs.Lent.{length_bytes}
 use Rattle.refusal.specs.declared.Refusal.{Refusal}
-use Rattle.refusal.specs.Answer.{Judged}
+use Rattle.refusal.specs.Answer.{Judged, refused_at, and_then, fitting, written}
 use Rattle.std.specs.Prelude.{Ok, Err}
-use Rattle.refusal.specs.Answer.{refused_at, and_then, fitting, written}
 use Rattle.refusal.proofs.Chain.{fitting_room, fitting_short}
 use Rattle.table.specs.Walk.{judge_of}
 use Rattle.table.specs.Decoded.{net_of}

@@ -1,8 +1,7 @@
 -- What a table answers that is asked for its lossy events, and what is left in the lent output.
 use Rattle.std.specs.Prelude.{ℕ, List, length}
 use Rattle.model.specs.Lent.{bytes}
-use Rattle.refusal.specs.Answer.{Judged}
-use Rattle.refusal.specs.Answer.{and_then, fitting, written}
+use Rattle.refusal.specs.Answer.{Judged, and_then, fitting, written}
 use Rattle.table.specs.Walk.{judge_of}
 use Rattle.table.specs.Decoded.{net_of}
 use Rattle.losses.specs.Losses.{lossy}

@@ -14,9 +14,8 @@ use Rattle.model.specs.Across.{run, lift, project, most_steps, most_unfolded}
 use Rattle.model.proofs.Lent.{length_bytes, bytes_at, bytes_are}
 use Rattle.model.proofs.Demands.{lift_lifts, lift_length}
 use Rattle.refusal.specs.declared.Refusal.{Refusal}
-use Rattle.refusal.specs.Answer.{Judged}
+use Rattle.refusal.specs.Answer.{Judged, need, and_then, written}
 use Rattle.std.specs.Prelude.{Result, Ok, Err}
-use Rattle.refusal.specs.Answer.{need, and_then, written}
 use Rattle.refusal.proofs.Chain.{passed_up, goes_on, never_both, ok_is, need_fine, then_fine, written_front}
 use Rattle.records.specs.Records.{conditions}
 use Rattle.table.specs.Walk.{judge_of}

@@ -1,14 +1,12 @@
 -- What the two files are opened to.
-use Rattle.std.specs.Prelude.{◌≡◌, List, ℕ, ◌≤◌, length, take, replicate}
+use Rattle.std.specs.Prelude.{◌≡◌, List, ℕ, ◌≤◌, length, take, replicate, Result, Ok, Err}
 use Rattle.model.specs.Net.{begin}
 use Rattle.model.specs.Lent.{bytes}
 use Rattle.model.specs.Runs.{end}
 use Rattle.model.specs.Unfolding.{basic}
 use Rattle.model.specs.Across.{lift, most_steps, most_unfolded}
-use Rattle.refusal.specs.Answer.{Judged}
-use Rattle.std.specs.Prelude.{Result, Ok, Err}
+use Rattle.refusal.specs.Answer.{Judged, and_then}
 use Rattle.refusal.specs.declared.Refusal.{Refusal}
-use Rattle.refusal.specs.Answer.{and_then}
 use Rattle.table.specs.Walk.{judge_of}
 use Rattle.table.specs.Decoded.{net_of}
 use Rattle.runs.specs.Runs.{run_of}

@@ -13,9 +13,8 @@ use Rattle.model.specs.Unfolding.{UnfoldedCondition, basic}
 use Rattle.model.specs.Numbering.{condition_count, event_count, condition_number, number}
 use Rattle.model.specs.Across.{Refusal, most_unfolded, within, lowest_idle, idle_or_over, unfolding_refused}
 use Rattle.model.proofs.Counts.{count_conditions}
-use Rattle.refusal.specs.Answer.{Judged}
+use Rattle.refusal.specs.Answer.{Judged, need, and_then, value_of}
 use Rattle.std.specs.Prelude.{Ok, Err}
-use Rattle.refusal.specs.Answer.{need, and_then, value_of}
 use Rattle.table.specs.Walk.{judge_of}
 use Rattle.table.specs.Decoded.{net_of}
 use Rattle.table.specs.Links.{refused_or}

@@ -10,9 +10,8 @@ use lib.Seq.{get_or-take, get_or-drop}
 use borrow.Author.Tests.{ltb-true, lt-ltb, le-ltb}
 use Rattle.words.specs.Words.{words}
 use Rattle.refusal.specs.declared.Refusal.{Refusal}
-use Rattle.refusal.specs.Answer.{Judged}
+use Rattle.refusal.specs.Answer.{Judged, need, and_then}
 use Rattle.std.specs.Prelude.{Ok, Err}
-use Rattle.refusal.specs.Answer.{need, and_then}
 use Rattle.refusal.proofs.Chain.{never_both, need_fine, then_fine}
 use Rattle.records.specs.Records.{front, conditions, pre_part, post_part}
 use Rattle.event_rules.proofs.Fine.{EventFine}

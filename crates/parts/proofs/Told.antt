@@ -3,9 +3,8 @@ use Prim.Native.Nat.{ℕ}
 use mathlib.Core.Path.{◌≡◌, refl}
 use mathlib.Core.List.{List}
 use mathlib.Core.Bool.{Bool, true, false}
-use Rattle.refusal.specs.Answer.{Judged}
+use Rattle.refusal.specs.Answer.{Judged, number_of, place_of}
 use Rattle.std.specs.Prelude.{Ok, Err}
-use Rattle.refusal.specs.Answer.{number_of, place_of}
 use Rattle.table.specs.Decoded.{net_of}
 use Rattle.parts.specs.Asked.{asked_condition_of, persistence_if, persistence_of, persistence_number, persistence_place, persistence_value}
 

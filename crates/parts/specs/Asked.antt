@@ -1,8 +1,6 @@
 -- What is answered when an event, a condition or a list of a table is asked for.
-use Rattle.std.specs.Prelude.{Result, ℕ, ◌+◌, ◌*◌, List, [], Bool, true, false, ltb}
-use Rattle.refusal.specs.Answer.{Judged}
-use Rattle.std.specs.Prelude.{Ok, Err}
-use Rattle.refusal.specs.Answer.{need, and_then}
+use Rattle.std.specs.Prelude.{Result, ℕ, ◌+◌, ◌*◌, List, [], Bool, true, false, ltb, Ok, Err}
+use Rattle.refusal.specs.Answer.{Judged, need, and_then}
 use Rattle.records.specs.Records.{front, conditions, pre_count, pre_part, post_part, marking_part}
 use Rattle.parts.specs.declared.Persistence.{Persistence}
 use Rattle.parts.specs.declared.Persistence.TheVariants.{Ordinary, Persistent}

@@ -4,11 +4,10 @@ use mathlib.Core.Path.{◌≡◌, refl, sym, subst}
 use mathlib.Core.List.{List}
 use borrow.Author.Tests.{le-ltb}
 use Rattle.model.specs.Net.{Marking, fire, stopping}
-use Rattle.std.specs.Prelude.{Result, Ok}
+use Rattle.std.specs.Prelude.{Result, Ok, Err}
 use Rattle.table.specs.Walk.{judge_of, offset_of}
 use Rattle.table.specs.Decoded.{net_of}
 use Rattle.stopping.specs.declared.Cause.TheVariants.{Unknown}
-use Rattle.std.specs.Prelude.{Err}
 use Rattle.step.specs.Tests.{Recorded, Moves}
 use Rattle.step.specs.Steps.{record_net}
 use Rattle.stopping.specs.Table.{Cause}

@@ -1,10 +1,9 @@
 -- What the inner functions of a run need and leave: the index of all offsets, bytes to be played on, and a run played on words.
-use Rattle.std.specs.Prelude.{◌≡◌, List, ℕ, ◌≤◌, ◌<◌, length, get_or}
+use Rattle.std.specs.Prelude.{◌≡◌, List, ℕ, ◌≤◌, ◌<◌, length, get_or, Result, Ok, Err}
 use Rattle.model.specs.Net.{Net, Marking}
 use Rattle.model.specs.Runs.{end, replay}
 use Rattle.model.specs.Across.{of_table, stuck, too_long}
 use Rattle.refusal.specs.Answer.{Judged}
-use Rattle.std.specs.Prelude.{Result, Ok, Err}
 use Rattle.refusal.specs.declared.Refusal.{Refusal}
 use Rattle.records.specs.Records.{conditions}
 use Rattle.table.specs.Walk.{judge_of, offset_of}

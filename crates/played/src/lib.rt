@@ -2,13 +2,12 @@
 // output; and the start and a step on lent bytes.
 #![tactic(auto)]
 
-ghost use Rattle.std.specs.Prelude.{◌≡◌, ◌≤◌, length, replicate};
+ghost use Rattle.std.specs.Prelude.{◌≡◌, ◌≤◌, length, replicate, Ok};
 ghost use Rattle.model.specs.Net.{begin, stopping, fire};
 ghost use Rattle.table.specs.Walk.{judge_of};
 ghost use Rattle.table.specs.Decoded.{net_of};
 ghost use Rattle.refusal.specs.Answer.{fitting, written};
 ghost use Rattle.model.specs.Lent.{bytes, marking};
-ghost use Rattle.std.specs.Prelude.{Ok};
 ghost use Rattle.held.specs.Held.{held_in};
 ghost use Rattle.step.specs.Tests.{Keeps, Moves};
 ghost use Rattle.step.specs.Steps.{stepped};

@@ -16,9 +16,8 @@ use Rattle.model.specs.Net.{Net}
 use Rattle.model.specs.Unfolding.{origin}
 use Rattle.model.specs.Numbering.{size}
 use Rattle.model.specs.Across.{read_back}
-use Rattle.refusal.specs.Answer.{Judged}
+use Rattle.refusal.specs.Answer.{Judged, refused_at, value_of, fitting}
 use Rattle.std.specs.Prelude.{Ok}
-use Rattle.refusal.specs.Answer.{refused_at, value_of, fitting}
 use Rattle.refusal.proofs.Chain.{need_passes, need_refuses}
 use Rattle.layout.specs.Laid.{Sums}
 use Rattle.across.specs.Prepared.{Around, Between}

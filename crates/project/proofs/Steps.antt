@@ -22,13 +22,11 @@ use Rattle.model.proofs.Lent.{length_bytes, bytes_marking}
 use Rattle.table.specs.Walk.{offset_of}
 use Rattle.table.specs.Decoded.{net_of}
 use Rattle.tally.proofs.Events.{within_limits}
-use Rattle.stopping.specs.Table.{Cause}
-use Rattle.stopping.specs.Table.{Step}
+use Rattle.stopping.specs.Table.{Cause, Step, step_of}
 use Rattle.std.specs.Prelude.{Err}
 use Rattle.stopping.specs.Causes.{goes}
 use Rattle.step.specs.Lent.{Lent}
 use Rattle.step.specs.Steps.{record_net, stepped}
-use Rattle.stopping.specs.Table.{step_of}
 use Rattle.stopping.specs.declared.Cause.TheVariants.{Unknown}
 use Rattle.stopping.specs.Unfolded as unfolded
 use Rattle.game.proofs.Found.{stopping_found, fire_found}

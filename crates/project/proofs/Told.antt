@@ -16,9 +16,8 @@ use Rattle.model.proofs.Firing.{runs_event}
 use Rattle.model.proofs.Answers.{unless_run, projecting_run, run_projecting}
 use Rattle.model.proofs.Project.{length_back}
 use Rattle.refusal.specs.declared.Refusal as declared
-use Rattle.refusal.specs.Answer.{Judged}
+use Rattle.refusal.specs.Answer.{Judged, refused_at, value_of, fitting, written}
 use Rattle.std.specs.Prelude.{Ok, Err}
-use Rattle.refusal.specs.Answer.{refused_at, value_of, fitting, written}
 use Rattle.refusal.proofs.Chain.{never_both, need_passes, need_refuses, then_fine}
 use Rattle.table.specs.Walk.{judge_of}
 use Rattle.table.specs.Decoded.{net_of}

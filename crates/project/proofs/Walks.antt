@@ -20,7 +20,7 @@ use Rattle.model.proofs.Lent.{bytes_marking, length_bytes, zeros_say, begun_mark
 use Rattle.model.proofs.Replay.{stops_replay}
 use Rattle.model.proofs.Answers.{stuck_none}
 use Rattle.refusal.specs.Answer.{Judged}
-use Rattle.std.specs.Prelude.{Ok}
+use Rattle.std.specs.Prelude.{Ok, Err}
 use Rattle.refusal.proofs.Chain.{never_both}
 use Rattle.table.specs.Walk.{judge_of}
 use Rattle.table.specs.Decoded.{net_of}
@@ -29,11 +29,8 @@ use Rattle.table.proofs.Sound.{tabled}
 use Rattle.table.specs.Links.{refusing}
 use Rattle.stopping.specs.Table as played
 use Rattle.step.specs.Steps.{set_all, record_net, stepped}
-use Rattle.stopping.specs.Unfolded.{Cause}
-use Rattle.stopping.specs.Unfolded.{Step}
-use Rattle.std.specs.Prelude.{Err}
+use Rattle.stopping.specs.Unfolded.{Cause, Step, cause_of, step_of, stopped_at}
 use Rattle.stopping.specs.Causes.{goes}
-use Rattle.stopping.specs.Unfolded.{cause_of, step_of, stopped_at}
 use Rattle.step.proofs.Bytes.{lent_bytes}
 use Rattle.step.proofs.Firing.{step_written}
 use Rattle.decided.specs.Kept.{Kept}

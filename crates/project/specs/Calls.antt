@@ -1,8 +1,7 @@
 -- What the projection of an unfolded run answers and what it leaves in its lent output.
 use Rattle.std.specs.Prelude.{ℕ, List, length}
 use Rattle.model.specs.Across.{project}
-use Rattle.refusal.specs.Answer.{Judged}
-use Rattle.refusal.specs.Answer.{and_then, written}
+use Rattle.refusal.specs.Answer.{Judged, and_then, written}
 use Rattle.table.specs.Walk.{judge_of}
 use Rattle.table.specs.Decoded.{net_of}
 use Rattle.across.specs.Calls.{fitted, numbers_of}

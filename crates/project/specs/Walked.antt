@@ -1,5 +1,5 @@
 -- What is known of the bytes along the steps of an unfolded run.
-use Rattle.std.specs.Prelude.{ℕ, ◌+◌, ◌≤◌, ◌<◌, ◌≡◌, false, List, map, T, length, get_or, take}
+use Rattle.std.specs.Prelude.{ℕ, ◌+◌, ◌≤◌, ◌<◌, ◌≡◌, false, List, map, T, length, get_or, take, Ok, Err}
 use Rattle.std.proofs.Math.Option.{Option, none}
 use Rattle.model.specs.Net.{Net, Marking, begin, Stop, stopping}
 use Rattle.model.specs.Runs.{State, opening, after, runs, end, replay}
@@ -8,15 +8,13 @@ use Rattle.model.specs.Numbering.{size, condition_count, event_count}
 use Rattle.model.specs.Across.{of_unfolding, stuck, most_steps, most_unfolded, read_back}
 use Rattle.model.specs.Lent.{bytes, marking}
 use Rattle.refusal.specs.Answer.{Judged}
-use Rattle.std.specs.Prelude.{Ok, Err}
 use Rattle.table.specs.Walk.{judge_of}
 use Rattle.table.specs.Decoded.{net_of}
 use Rattle.table.specs.Links.{refused_or}
 use Rattle.layout.specs.Laid.{Sums, Counted, Marked}
 use Rattle.step.specs.Lent.{Lent}
 use Rattle.step.specs.Steps.{record_net}
-use Rattle.stopping.specs.Unfolded.{Step}
-use Rattle.stopping.specs.Unfolded.{step_of}
+use Rattle.stopping.specs.Unfolded.{Step, step_of}
 use Rattle.played.specs.Played.{Indexed}
 use Rattle.tally.specs.Having.{Tally}
 use Rattle.across.specs.Prepared.{Between}

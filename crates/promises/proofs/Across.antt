@@ -21,10 +21,9 @@ use Rattle.model.proofs.Exchange.{exchanged_twice, length_exchanged}
 use Rattle.model.proofs.Demands.{lift_lifts, lift_project, lift_exactly, lift_again, lift_read, lift_unread, lift_unread_at, project_projects, project_exactly, exchange_exchanged, exchange_lifts, exchange_ends, lift_length}
 use Rattle.model.proofs.Project.{length_back}
 use Rattle.model.proofs.Readings.{forced}
-use Rattle.refusal.specs.Answer.{Judged}
+use Rattle.refusal.specs.Answer.{Judged, refused_at, need, fitting, written}
 use Rattle.std.specs.Prelude.{Ok}
 use Rattle.refusal.specs.Answer as refused
-use Rattle.refusal.specs.Answer.{refused_at, need, fitting, written}
 use Rattle.refusal.proofs.Chain.{never_both, then_fine, fitting_room, written_front}
 use Rattle.table.specs.Walk.{judge_of}
 use Rattle.table.specs.Decoded.{net_of}

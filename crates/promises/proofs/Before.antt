@@ -16,9 +16,8 @@ use Rattle.model.specs.Exchange.{exchanged}
 use Rattle.model.specs.Across.{Whose, stopped, Answer, run, refusal, unless, stuck, too_long, unfolding_refused, own_or_earliest, lifted, repeated, again, lifting, lift, read_back, projecting, project, no_step, not_apart, exchanging, exchange}
 use Rattle.model.specs.Across as model
 use Rattle.model.specs.Lent.{bytes, marking}
-use Rattle.refusal.specs.Answer.{Judged}
+use Rattle.refusal.specs.Answer.{Judged, need, and_then, fitting, written}
 use Rattle.std.specs.Prelude.{Ok, Err}
-use Rattle.refusal.specs.Answer.{need, and_then, fitting, written}
 use Rattle.table.specs.Walk.{judge_of}
 use Rattle.table.specs.Decoded.{net_of}
 use Rattle.table.specs.Links.{refusal_by, refusing, refused_or}

@@ -20,9 +20,8 @@ use Rattle.model.specs.Paper.{holding}
 use Rattle.model.proofs.Answers.{length_short}
 use Rattle.model.proofs.Exchange.{apart_parts, parts_apart}
 use Rattle.model.proofs.Replay.{replay_runs, runs_replay}
-use Rattle.refusal.specs.Answer.{Judged}
+use Rattle.refusal.specs.Answer.{Judged, refused_at, number_of, place_of}
 use Rattle.std.specs.Prelude.{Ok}
-use Rattle.refusal.specs.Answer.{refused_at, number_of, place_of}
 use Rattle.refusal.proofs.Chain.{never_both}
 use Rattle.table.specs.Walk.{judge_of}
 use Rattle.table.specs.Decoded.{net_of}

@@ -21,9 +21,8 @@ use Rattle.model.proofs.Own.{for_another}
 use Rattle.model.proofs.Repeats.{repeated_cons, repeated_build, repeated_first}
 use Rattle.model.proofs.Answers.{lifting_again}
 use Rattle.refusal.specs.declared.Refusal as declared
-use Rattle.refusal.specs.Answer.{Judged}
+use Rattle.refusal.specs.Answer.{Judged, refused_at}
 use Rattle.std.specs.Prelude.{Ok, Err}
-use Rattle.refusal.specs.Answer.{refused_at}
 use Rattle.table.specs.Walk.{judge_of}
 use Rattle.table.specs.Decoded.{net_of}
 use Rattle.across.specs.Calls.{fitted}

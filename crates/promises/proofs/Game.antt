@@ -16,9 +16,8 @@ use Rattle.model.proofs.Exchange.{exchanged_short}
 use Rattle.model.proofs.Demands.{exchange_exchanged}
 use Rattle.model.proofs.Lent.{length_bytes}
 use Rattle.refusal.specs.declared.Refusal.{Refusal}
-use Rattle.refusal.specs.Answer.{Judged}
+use Rattle.refusal.specs.Answer.{Judged, written}
 use Rattle.std.specs.Prelude.{Ok, Err}
-use Rattle.refusal.specs.Answer.{written}
 use Rattle.refusal.proofs.Chain.{never_both, then_fine, fitting_room, written_refused}
 use Rattle.table.specs.Walk.{judge_of}
 use Rattle.table.specs.Decoded.{net_of}

@@ -8,9 +8,8 @@ use lib.Dec.{T}
 use lib.ListN.{length}
 use Rattle.lists.specs.Lists.{mem}
 use Rattle.refusal.specs.declared.Refusal.{Refusal}
-use Rattle.refusal.specs.Answer.{Judged}
+use Rattle.refusal.specs.Answer.{Judged, written}
 use Rattle.std.specs.Prelude.{Err}
-use Rattle.refusal.specs.Answer.{written}
 use Rattle.table.specs.Decoded.{net_of}
 use Rattle.parts.specs.Asked.{asked_of, asked_condition_of, persistence_number}
 use Rattle.parts.proofs.Told.{persistence_number_lem}

@@ -15,13 +15,11 @@ use Rattle.held.specs.Held.{held_in}
 use Rattle.model.specs.Across.{stuck, too_long, unfolding_refused}
 use Rattle.model.specs.Across as model
 use Rattle.table.specs.Decoded.{net_of}
-use Rattle.stopping.specs.Table.{Cause}
+use Rattle.stopping.specs.Table.{Cause, Step, step_of, cause_place, stopped_at, answered_of}
 use Rattle.stopping.specs.declared.Cause.TheVariants.{Unknown, Lacks, Meets}
-use Rattle.stopping.specs.Table.{Step}
 use Rattle.std.specs.Prelude.{Err}
 use Rattle.stopping.specs.Causes.{goes}
 use Rattle.step.specs.Steps.{record_net, stepped}
-use Rattle.stopping.specs.Table.{step_of, cause_place, stopped_at, answered_of}
 use Rattle.unfolded_step.specs.declared.Cause as unfolded-cause
 use Rattle.stopping.specs.declared.Cause.TheVariants as unfolded-causes
 use Rattle.unfolded_step.specs.declared.Step as unfolded-step

@@ -12,13 +12,10 @@ use Rattle.lists.proofs.Bools.{and_right, and_both, or_left, or_right}
 use Rattle.model.specs.Unfolding.{UnfoldedCondition, ordinary, copy, basic}
 use Rattle.model.specs.Across as model
 use Rattle.model.specs.Across.{unfolding_refused}
-use Rattle.refusal.specs.Answer.{By}
-use Rattle.std.specs.Prelude.{None, Some}
+use Rattle.refusal.specs.Answer.{By, Judged, number_of, by_of, and_then, written}
+use Rattle.std.specs.Prelude.{None, Some, Ok, Err}
 use Rattle.refusal.specs.declared.Condition.TheVariants.{Table, Unfolded}
 use Rattle.refusal.specs.declared.Refusal.{Refusal}
-use Rattle.refusal.specs.Answer.{Judged}
-use Rattle.std.specs.Prelude.{Ok, Err}
-use Rattle.refusal.specs.Answer.{number_of, by_of, and_then, written}
 use Rattle.refusal.proofs.Chain.{never_both}
 use Rattle.table.specs.Walk.{judge_of}
 use Rattle.table.specs.Decoded.{net_of}

@@ -19,9 +19,8 @@ use Rattle.model.proofs.Lent.{length_bytes, bytes_at}
 use Rattle.model.proofs.Answers.{stuck_none, short_length, length_short}
 use Rattle.model.proofs.Own.{none_again}
 use Rattle.model.proofs.Demands.{lift_exactly, lift_lifts, lift_length}
-use Rattle.refusal.specs.Answer.{Judged}
+use Rattle.refusal.specs.Answer.{Judged, fitting, written}
 use Rattle.std.specs.Prelude.{Ok, Err}
-use Rattle.refusal.specs.Answer.{fitting, written}
 use Rattle.refusal.proofs.Chain.{then_fine, fitting_fine}
 use Rattle.table.specs.Walk.{judge_of}
 use Rattle.table.specs.Decoded.{net_of}

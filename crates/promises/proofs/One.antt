@@ -5,8 +5,7 @@ use mathlib.Core.List.{List}
 use Prim.Native.Nat.{ℕ}
 use denote.Ref.{Bor}
 use Rattle.records.specs.Parts.{Part}
-use Rattle.refusal.specs.Answer.{Judged}
-use Rattle.refusal.specs.Answer.{written}
+use Rattle.refusal.specs.Answer.{Judged, written}
 use Rattle.runs.specs.Runs.{run_of}
 use Rattle.listing.specs.Calls.{text_of}
 use Rattle.refusal.proofs.refused.Reads as refused

@@ -15,15 +15,13 @@ use Rattle.model.specs.Lent.{bytes}
 use Rattle.model.specs.Numbering.{size, width, event_count}
 use Rattle.held.specs.Held.{bit_of, held_in}
 use Rattle.held.proofs.Bits.{halved}
-use Rattle.refusal.specs.Answer.{Judged}
-use Rattle.refusal.specs.Answer.{written}
+use Rattle.refusal.specs.Answer.{Judged, written}
 use Rattle.table.specs.Walk.{offset_of}
 use Rattle.table.specs.Decoded.{net_of}
 use Rattle.tally.specs.Having.{Tally}
 use Rattle.layout.proofs.Counts.{sum_part}
-use Rattle.std.specs.Prelude.{Option as Perhaps}
+use Rattle.std.specs.Prelude.{Option as Perhaps, None, Some}
 use Rattle.unfolding.specs.declared.Coloured.{Coloured}
-use Rattle.std.specs.Prelude.{None, Some}
 use Rattle.unfolding.specs.Numbers.{Owner, Belongs}
 use Rattle.pnml.specs.Text.{text_of}
 use Rattle.promises.proofs.One.{same_part}

@@ -23,11 +23,9 @@ use Rattle.model.proofs.Numbers.{number_at}
 use Rattle.model.proofs.Counts.{condition_back}
 use Rattle.model.proofs.Unfolded.{origin_in}
 use Rattle.model.proofs.Lent.{length_bytes, begun_marking}
-use Rattle.model.proofs.Sets.{conditions_paper, colours_paper, colours_all, colours_one, pre_paper}
-use Rattle.model.proofs.Sets.{post_paper, start_paper, lists_ascend, Names, named_one, basic_sound}
-use Rattle.refusal.specs.Answer.{Judged}
+use Rattle.model.proofs.Sets.{conditions_paper, colours_paper, colours_all, colours_one, pre_paper, post_paper, start_paper, lists_ascend, Names, named_one, basic_sound}
+use Rattle.refusal.specs.Answer.{Judged, need, fitting, written}
 use Rattle.std.specs.Prelude.{Ok, Err}
-use Rattle.refusal.specs.Answer.{need, fitting, written}
 use Rattle.refusal.proofs.Chain.{need_passes, need_fine, fitting_fine, written_front}
 use Rattle.table.specs.Decoded.{net_of}
 use Rattle.table.specs.Tabled.{Tabled}
@@ -48,8 +46,7 @@ use Rattle.inverse.proofs.Conditions.{value_told, origin_numbered, numbered_orig
 use Rattle.inverse.proofs.Colours.{colour_told}
 use Rattle.inverse.proofs.Numbers.{number_origin, origin_number_lem}
 use Rattle.inverse.proofs.Events.{few_markers, event_back, event_forth}
-use Rattle.promises.specs.Paper.{condition_count_of, event_count_of, StandsAt, standing, ConditionsNumbered, event_at}
-use Rattle.promises.specs.Paper.{colour_at, ToldAt, EventsNumbered, side', Listed, Started}
+use Rattle.promises.specs.Paper.{condition_count_of, event_count_of, StandsAt, standing, ConditionsNumbered, event_at, colour_at, ToldAt, EventsNumbered, side', Listed, Started}
 
 -- ---- sets that have the same members
 

@@ -23,9 +23,8 @@ use Rattle.model.proofs.Lent.{Tidy, length_bytes, marking_bytes, tidy_marking}
 use Rattle.model.proofs.Sets.{basic_sound}
 use Rattle.model.proofs.Rule.{unfolded_paper, unfolded_old}
 use Rattle.model.proofs.Demands.{project_exactly}
-use Rattle.refusal.specs.Answer.{Judged}
+use Rattle.refusal.specs.Answer.{Judged, need, written}
 use Rattle.std.specs.Prelude.{Ok, Err}
-use Rattle.refusal.specs.Answer.{need, written}
 use Rattle.refusal.proofs.Chain.{need_passes, need_fine, fitting_room, written_front}
 use Rattle.records.specs.Records.{old_rule}
 use Rattle.table.specs.Walk.{judge_of}

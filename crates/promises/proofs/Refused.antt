@@ -16,15 +16,12 @@ use Rattle.model.specs.Exchange.{apart_step}
 use Rattle.model.specs.Lent.{marking}
 use Rattle.model.specs.Across.{Whose, stopped, Answer, run, refusal, other, unless, stuck, most_steps, most_unfolded, too_long, within, lowest_idle, idle_or_over, unfolding_refused, own_or_earliest, repeated, again, lifting, lift, projecting, project, no_step, not_apart, exchanging, exchange}
 use Rattle.model.specs.Across as model
-use Rattle.refusal.specs.Answer.{Judged}
-use Rattle.std.specs.Prelude.{Ok, Err}
+use Rattle.refusal.specs.Answer.{Judged, refused_at, need, and_then, fitting}
+use Rattle.std.specs.Prelude.{Ok, Err, None}
 use Rattle.refusal.specs.Answer as answer
-use Rattle.refusal.specs.Answer.{refused_at, need, and_then, fitting}
 use Rattle.words.specs.Words.{words, bits, count_in}
 use Rattle.records.specs.declared.Header.{Header}
-use Rattle.records.specs.Records.{whole}
-use Rattle.std.specs.Prelude.{None}
-use Rattle.records.specs.Records.{part, header_of, when_whole, ruled, front, conditions, flags, pre_count, post_count, pre_part, post_part}
+use Rattle.records.specs.Records.{whole, part, header_of, when_whole, ruled, front, conditions, flags, pre_count, post_count, pre_part, post_part}
 use Rattle.rules.specs.Rules.{rule_of, conditions_of, marking_of}
 use Rattle.event_rules.specs.EventRules.{lists_of, event_of}
 use Rattle.table.specs.Walk.{kind_is, last_of, events_from, judge_of, offset_of}

@@ -17,9 +17,8 @@ use Rattle.model.specs.Paper.{Set, holding, Concession, OldConcession, Fires}
 use Rattle.model.proofs.Firing.{none_can, can_none, can_concession, can_of, fire_none}
 use Rattle.model.proofs.Lent.{marking_bytes, tidy_marking}
 use Rattle.model.proofs.Rule.{concession_paper, fires_paper, concession_old, fires_old}
-use Rattle.refusal.specs.Answer.{Judged}
+use Rattle.refusal.specs.Answer.{Judged, and_then}
 use Rattle.std.specs.Prelude.{Ok}
-use Rattle.refusal.specs.Answer.{and_then}
 use Rattle.refusal.proofs.Chain.{never_both}
 use Rattle.records.specs.Records.{old_rule}
 use Rattle.table.specs.Decoded.{net_of}

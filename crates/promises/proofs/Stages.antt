@@ -11,8 +11,7 @@ use Rattle.model.specs.Net.{Net, Sound, Marking, begin}
 use Rattle.model.specs.Runs.{runs, end, State, opening, step}
 use Rattle.model.specs.Unfolding.{origin, basic}
 use Rattle.model.specs.Numbering.{number}
-use Rattle.model.specs.Across.{run, unless, most_steps, too_long, unfolding_refused, Lifting, own_or_earliest}
-use Rattle.model.specs.Across.{coloured, lifted, repeated, lifting, lift, read_back, projecting, project}
+use Rattle.model.specs.Across.{run, unless, most_steps, too_long, unfolding_refused, Lifting, own_or_earliest, coloured, lifted, repeated, lifting, lift, read_back, projecting, project}
 use Rattle.model.specs.Lent.{bytes, marking}
 use Rattle.model.specs.Demands.{Correspond, Lifts, Projects}
 use Rattle.model.proofs.Firing.{runs_before}

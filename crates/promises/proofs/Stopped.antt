@@ -21,11 +21,9 @@ use Rattle.model.specs.Lent.{marking}
 use Rattle.model.specs.Stopped.{StoppedBy, StoppedAt}
 use Rattle.model.proofs.Sets.{basic_sound}
 use Rattle.model.proofs.Stopped.{stopping_exactly, refused_exactly}
-use Rattle.std.specs.Prelude.{None}
+use Rattle.std.specs.Prelude.{None, Ok, Err}
 use Rattle.refusal.specs.declared.Refusal as declared
-use Rattle.refusal.specs.Answer.{Judged}
-use Rattle.std.specs.Prelude.{Ok, Err}
-use Rattle.refusal.specs.Answer.{number_of, place_of, by_of, condition_of, need, and_then, fitting}
+use Rattle.refusal.specs.Answer.{Judged, number_of, place_of, by_of, condition_of, need, and_then, fitting}
 use Rattle.refusal.proofs.Chain.{never_both, then_fine}
 use Rattle.table.specs.Walk.{judge_of}
 use Rattle.table.specs.Decoded.{net_of}

@@ -4,9 +4,8 @@ use Prim.Native.Nat.{ℕ}
 use mathlib.Core.Path.{◌≡◌, refl}
 use mathlib.Core.List.{List}
 use Rattle.model.specs.Unfolding.{UnfoldedCondition, ordinary, copy, UnfoldedEvent, origin}
-use Rattle.refusal.specs.Answer.{Judged}
+use Rattle.refusal.specs.Answer.{Judged, number_of, place_of}
 use Rattle.std.specs.Prelude.{Ok, Err}
-use Rattle.refusal.specs.Answer.{number_of, place_of}
 use Rattle.table.specs.Decoded.{net_of}
 use Rattle.events.specs.Answers.{origin_judged, origin_if, origin_of}
 use Rattle.conditions.specs.Origins.{condition_at, condition_judged, told_if, condition_origin_of, origin_number, origin_place}

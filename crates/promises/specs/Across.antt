@@ -1,5 +1,5 @@
 -- What is promised of lift, project, replay and exchange together: demands 2 and 3 over the definitions that their contracts cite.
-use Rattle.std.specs.Prelude.{◌≡◌, ◌↔◌, List, ℕ, ◌≤◌, T, length, take}
+use Rattle.std.specs.Prelude.{◌≡◌, ◌↔◌, List, ℕ, ◌≤◌, T, length, take, Ok}
 use Rattle.model.specs.Net.{begin}
 use Rattle.model.specs.Runs.{runs, end}
 use Rattle.model.specs.Unfolding.{basic}
@@ -7,7 +7,6 @@ use Rattle.model.specs.Exchange.{exchanged}
 use Rattle.model.specs.Across.{read_back}
 use Rattle.model.specs.Demands.{Correspond}
 use Rattle.model.specs.Readings.{Again, FirstAgain, Reading, Unread, Forced}
-use Rattle.std.specs.Prelude.{Ok}
 use Rattle.refusal.specs.Answer.{refused_at}
 use Rattle.table.specs.Decoded.{net_of}
 use Rattle.replay.specs.Calls.{replay_of}

@@ -1,6 +1,6 @@
 -- The answers as they were before a refusal named a condition: a number and a place, and for a firing the place 0. The calls that may now
 -- name one are written out so, to be held against what they answer; a lift is one by the present rule, and Former has the one before.
-use Rattle.std.specs.Prelude.{Bool, true, false, cond, List, ◌++◌, ℕ, eqb, leb, length, drop}
+use Rattle.std.specs.Prelude.{Bool, true, false, cond, List, ◌++◌, ℕ, eqb, leb, length, drop, Ok, Err}
 use Rattle.std.proofs.Math.Option.{Option, none, some}
 use Rattle.lists.specs.Lists.{mem}
 use Rattle.model.specs.Net.{Net, Stop, stop_number, stopping}
@@ -9,7 +9,6 @@ use Rattle.model.specs.Unfolding.{basic}
 use Rattle.model.specs.Across.{Refusal, number_of, place_of, too_long, unfolding_refused, own_or_earliest, lifted, repeated, again, read_back, no_step, not_apart}
 use Rattle.model.specs.Lent.{marking}
 use Rattle.refusal.specs.Answer.{Judged}
-use Rattle.std.specs.Prelude.{Ok, Err}
 use Rattle.table.specs.Walk.{judge_of}
 use Rattle.table.specs.Decoded.{net_of}
 use Rattle.game.specs.Lent.{first_above}

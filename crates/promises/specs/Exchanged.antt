@@ -1,12 +1,10 @@
 -- What is promised of exchange both ways: the premises of demand 3 in the paper's sets, and which answer is given exactly when.
-use Rattle.std.specs.Prelude.{◌≡◌, ◌↔◌, List, ℕ, suc, ◌≤◌, ◌<◌, T, length, get_or, take}
+use Rattle.std.specs.Prelude.{◌≡◌, ◌↔◌, List, ℕ, suc, ◌≤◌, ◌<◌, T, length, get_or, take, Ok}
 use Rattle.model.specs.Net.{Net, begin}
 use Rattle.model.specs.Runs.{runs, end}
 use Rattle.model.specs.Exchange.{exchanged}
 use Rattle.model.specs.Paper.{Set, ∅, ◌∪◌, ◌∩◌, ◌∖◌, ◌⊆◌, ◌≐◌, P, pre, post, holding}
-use Rattle.refusal.specs.Answer.{Judged}
-use Rattle.std.specs.Prelude.{Ok}
-use Rattle.refusal.specs.Answer.{refused_at}
+use Rattle.refusal.specs.Answer.{Judged, refused_at}
 
 -- •e ∪ e•, the conditions that an event touches (01, Runs across).
 abbrev pub touching : Net → ℕ → Set ℕ

@@ -7,8 +7,7 @@ use Rattle.model.specs.Runs.{end, opening}
 use Rattle.model.specs.Lent.{bytes}
 use Rattle.model.specs.Unfolding.{basic}
 use Rattle.model.specs.Across.{Answer, unless, too_long, unfolding_refused, Lifting, or_start, lifting}
-use Rattle.refusal.specs.Answer.{Judged}
-use Rattle.refusal.specs.Answer.{and_then, written}
+use Rattle.refusal.specs.Answer.{Judged, and_then, written}
 use Rattle.table.specs.Walk.{judge_of}
 use Rattle.table.specs.Decoded.{net_of}
 use Rattle.across.specs.Calls.{fitted, ended, numbers_of}

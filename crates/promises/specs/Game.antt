@@ -1,6 +1,5 @@
 -- What is promised of the calls of the game, over the definitions that their contracts cite.
-use Rattle.std.specs.Prelude.{◌≡◌, List, [], ◌∷◌, ℕ, ◌≤◌, length}
-use Rattle.std.specs.Prelude.{Ok}
+use Rattle.std.specs.Prelude.{◌≡◌, List, [], ◌∷◌, ℕ, ◌≤◌, length, Ok}
 use Rattle.table.specs.Decoded.{net_of}
 use Rattle.game.specs.Calls.{fired_of}
 use Rattle.replay.specs.Calls.{replay_of, end_of, replay_from_of, end_from_of}

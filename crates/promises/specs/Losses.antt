@@ -1,8 +1,7 @@
 -- What is promised where the call that tells the lossy events wrote only zeros: nothing of the table's runs is lost.
-use Rattle.std.specs.Prelude.{◌≡◌, List, ℕ, ◌≤◌, ◌<◌, T, length, get_or}
+use Rattle.std.specs.Prelude.{◌≡◌, List, ℕ, ◌≤◌, ◌<◌, T, length, get_or, Ok}
 use Rattle.model.specs.Net.{begin}
 use Rattle.model.specs.Runs.{runs}
-use Rattle.std.specs.Prelude.{Ok}
 use Rattle.table.specs.Decoded.{net_of}
 use Rattle.replay.specs.Calls.{replay_of, end_of}
 use Rattle.lift.specs.Calls.{lift_of}

@@ -1,6 +1,6 @@
 -- What is promised of the calls on the unfolding in the paper's own sets: what its numbers stand for, what its events take and put, what
 -- holds at its start, and how it is played.
-use Rattle.std.specs.Prelude.{◌≡◌, Bool, true, false, ◌↔◌, List, [], ◌∷◌, ℕ, ◌<◌, T}
+use Rattle.std.specs.Prelude.{◌≡◌, Bool, true, false, ◌↔◌, List, [], ◌∷◌, ℕ, ◌<◌, T, Ok}
 use Rattle.std.proofs.Math.Option.{some}
 use Rattle.std.proofs.Math.ListN.{take}
 use Rattle.lists.specs.Lists.{ascending, ◌∈◌}
@@ -11,7 +11,6 @@ use Rattle.model.specs.Lent.{marking}
 use Rattle.model.specs.Paper.{Set, ∅, ◌∪◌, ◌∩◌, ◌∖◌, ◌⊆◌, ◌≐◌, B, E, holding, E', B', pre', post', start'}
 use Rattle.refusal.specs.declared.Marker as declared
 use Rattle.refusal.specs.Answer.{Judged}
-use Rattle.std.specs.Prelude.{Ok}
 use Rattle.records.specs.Records.{old_rule}
 use Rattle.table.specs.Decoded.{net_of}
 use Rattle.tally.specs.Having.{list_of}

@@ -1,12 +1,9 @@
 -- Which refusals each call may give, and what a refusal leaves: demand 1.
-use Rattle.std.specs.Prelude.{◌≡◌, Bool, true, false, ◌&&◌, List, [], ◌∷◌, ◌++◌, ℕ, T}
+use Rattle.std.specs.Prelude.{◌≡◌, Bool, true, false, ◌&&◌, List, [], ◌∷◌, ◌++◌, ℕ, T, None, Some, Ok, Err}
 use Rattle.lists.specs.Lists.{mem, same}
-use Rattle.refusal.specs.Answer.{By}
-use Rattle.std.specs.Prelude.{None, Some}
+use Rattle.refusal.specs.Answer.{By, Judged}
 use Rattle.refusal.specs.declared.Condition.TheVariants.{Table, Unfolded}
 use Rattle.refusal.specs.declared.Refusal.{Refusal}
-use Rattle.refusal.specs.Answer.{Judged}
-use Rattle.std.specs.Prelude.{Ok, Err}
 use Rattle.outward.specs.declared.Answer.{Answer}
 
 -- ---- numbers by what is asked

@@ -1,9 +1,8 @@
 -- What is promised of the calls of the game by the rule that a table asks for, in the model's set notation.
-use Rattle.std.specs.Prelude.{◌≡◌, ◌↔◌, List, ℕ}
+use Rattle.std.specs.Prelude.{◌≡◌, ◌↔◌, List, ℕ, Ok}
 use Rattle.model.specs.Net.{Net}
 use Rattle.model.specs.Paper.{Set, holding, Fires}
 use Rattle.model.specs.Lent.{marking}
-use Rattle.std.specs.Prelude.{Ok}
 use Rattle.table.specs.Decoded.{net_of}
 use Rattle.game.specs.Calls.{concession_of, fire_of, fired_of}
 

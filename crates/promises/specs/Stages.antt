@@ -1,11 +1,10 @@
 -- What is promised of every stage of a lifted and of a projected run: theorem 6.1 for each beginning of a run, and not for the ends alone.
-use Rattle.std.specs.Prelude.{◌≡◌, List, ℕ, ◌≤◌, length, take}
+use Rattle.std.specs.Prelude.{◌≡◌, List, ℕ, ◌≤◌, length, take, Ok}
 use Rattle.model.specs.Net.{begin}
 use Rattle.model.specs.Runs.{end}
 use Rattle.model.specs.Unfolding.{basic}
 use Rattle.model.specs.Lent.{marking}
 use Rattle.model.specs.Demands.{Correspond}
-use Rattle.std.specs.Prelude.{Ok}
 use Rattle.table.specs.Decoded.{net_of}
 use Rattle.replay.specs.Calls.{end_of}
 use Rattle.lift.specs.Calls.{lift_of}

@@ -1,5 +1,5 @@
 -- Which condition a refused call names: the one that stopped the step, and the lowest of those that do.
-use Rattle.std.specs.Prelude.{◌≡◌, ◌↔◌, List, ℕ, T}
+use Rattle.std.specs.Prelude.{◌≡◌, ◌↔◌, List, ℕ, T, Ok, Err}
 use Rattle.std.proofs.Math.Option.{some}
 use Rattle.lists.specs.Lists.{mem}
 use Rattle.model.specs.Net.{Net, Marking, lacks, meets}
@@ -7,9 +7,7 @@ use Rattle.model.specs.Unfolding.{basic}
 use Rattle.model.specs.Across.{Whose, too_long}
 use Rattle.model.specs.Stopped.{StoppedBy, StoppedAt}
 use Rattle.refusal.specs.declared.Refusal.{Refusal}
-use Rattle.refusal.specs.Answer.{Judged}
-use Rattle.std.specs.Prelude.{Ok, Err}
-use Rattle.refusal.specs.Answer.{refused_by, and_then}
+use Rattle.refusal.specs.Answer.{Judged, refused_by, and_then}
 use Rattle.table.specs.Walk.{judge_of}
 use Rattle.table.specs.Decoded.{net_of}
 use Rattle.table.specs.Links.{by_in, refused_or}

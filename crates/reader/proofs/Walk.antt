@@ -7,9 +7,8 @@ use mathlib.Core.Bool.{Bool, true, false, cond}
 use borrow.Author.Tests.{eq-eqb, ne_eqb, eqb-false, lt-ltb, le-ltb}
 use Rattle.words.specs.Words.{word_at}
 use Rattle.refusal.specs.declared.Refusal.{Refusal}
-use Rattle.refusal.specs.Answer.{Judged}
+use Rattle.refusal.specs.Answer.{Judged, refused_at, need, and_then}
 use Rattle.std.specs.Prelude.{Ok, Err}
-use Rattle.refusal.specs.Answer.{refused_at, need, and_then}
 use Rattle.refusal.proofs.Chain.{never_both}
 use Rattle.records.specs.Records.{header_of, ruled, front, conditions}
 use Rattle.rules.specs.Rules.{rule_of, conditions_of, marking_of}

@@ -1,8 +1,6 @@
 -- What a reader finds at its place in a table, and where it stands when moved.
-use Rattle.std.specs.Prelude.{cond, ℕ, zero, suc, ◌+◌, List, ◌≡◌, length, ltb, eqb}
-use Rattle.refusal.specs.Answer.{Judged}
-use Rattle.std.specs.Prelude.{Ok, Err}
-use Rattle.refusal.specs.Answer.{need}
+use Rattle.std.specs.Prelude.{cond, ℕ, zero, suc, ◌+◌, List, ◌≡◌, length, ltb, eqb, Ok, Err}
+use Rattle.refusal.specs.Answer.{Judged, need}
 use Rattle.records.specs.Records.{header_of, ruled, front}
 use Rattle.rules.specs.Rules.{rule_of, conditions_of, marking_of}
 use Rattle.event_rules.specs.EventRules.{event_of}

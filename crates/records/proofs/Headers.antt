@@ -9,11 +9,9 @@ use lib.Dec.{leb}
 use borrow.Author.Tests.{le-leb, lt-leb, leb-true}
 use Rattle.words.specs.Words.{word_at}
 use Rattle.refusal.specs.Answer.{Judged}
-use Rattle.std.specs.Prelude.{Ok}
+use Rattle.std.specs.Prelude.{Ok, Option, None, Some}
 use Rattle.records.specs.declared.Header.{Header}
-use Rattle.records.specs.Records.{whole}
-use Rattle.std.specs.Prelude.{Option, None, Some}
-use Rattle.records.specs.Records.{header_of, when_whole}
+use Rattle.records.specs.Records.{whole, header_of, when_whole}
 
 pub header_short : (s : List ℕ) (at : ℕ) → length s < at + 4 + word_at s at → None ≡ header_of s at
 unfolding header_of

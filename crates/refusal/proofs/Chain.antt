@@ -9,9 +9,8 @@ use lib.ListN.{length, take, drop}
 use lib.Seq.{take-append_seam}
 use borrow.Author.Tests.{le-leb, lt-leb, leb-true}
 use Rattle.refusal.specs.declared.Refusal.{Refusal}
-use Rattle.refusal.specs.Answer.{Judged}
+use Rattle.refusal.specs.Answer.{Judged, refused_at, need, and_then, fitting, written}
 use Rattle.std.specs.Prelude.{Result, Ok, Err}
-use Rattle.refusal.specs.Answer.{refused_at, need, and_then, fitting, written}
 
 -- An answer r that is refused is passed up as it is.
 pub passed_up : {x r : Judged} {refusal : Refusal} (f : ℕ → Judged) → r ≡ x → r ≡ Err refusal → r ≡ and_then x f

@@ -3,8 +3,7 @@ use Rattle.std.specs.Prelude.{List, ℕ, length}
 use Rattle.model.specs.Net.{Net, begin}
 use Rattle.model.specs.Runs.{end, State, opening, replay}
 use Rattle.model.specs.Across.{of_table, stuck, too_long}
-use Rattle.refusal.specs.Answer.{Judged}
-use Rattle.refusal.specs.Answer.{and_then, fitting, written}
+use Rattle.refusal.specs.Answer.{Judged, and_then, fitting, written}
 use Rattle.table.specs.Walk.{judge_of}
 use Rattle.table.specs.Decoded.{net_of}
 use Rattle.model.specs.Lent.{bytes, marking}

@@ -9,8 +9,7 @@ use Rattle.lists.specs.Lists.{fits}
 use Rattle.words.specs.Words.{word_at, words, bits}
 use Rattle.std.specs.Prelude.{Ok}
 use Rattle.refusal.specs.Answer.{need}
-use Rattle.records.specs.Records.{whole}
-use Rattle.records.specs.Records.{part, header_of, conditions}
+use Rattle.records.specs.Records.{whole, part, header_of, conditions}
 use Rattle.records.proofs.Headers.{known}
 use Rattle.rules.specs.Rules.{rule_of, conditions_of, marking_of}
 

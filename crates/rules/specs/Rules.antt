@@ -1,9 +1,7 @@
 -- What the first records and the last one of a table must be: header, length and payload, with the number and place of each refusal.
-use Rattle.std.specs.Prelude.{ℕ, ◌+◌, ◌%◌, cond, List, length, get_or, leb, eqb}
+use Rattle.std.specs.Prelude.{ℕ, ◌+◌, ◌%◌, cond, List, length, get_or, leb, eqb, Ok}
 use Rattle.lists.specs.Lists.{fits}
-use Rattle.refusal.specs.Answer.{Judged}
-use Rattle.std.specs.Prelude.{Ok}
-use Rattle.refusal.specs.Answer.{need}
+use Rattle.refusal.specs.Answer.{Judged, need}
 use Rattle.words.specs.Words.{words, bits}
 use Rattle.records.specs.Records.{part, header_of, when_whole, ruled, conditions}
 

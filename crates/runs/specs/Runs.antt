@@ -1,9 +1,7 @@
 -- What reading a Run or a Lifted record answers, and what it leaves in the lent run.
-use Rattle.std.specs.Prelude.{ℕ, ◌+◌, ◌/◌, ◌%◌, List, leb, eqb, length}
+use Rattle.std.specs.Prelude.{ℕ, ◌+◌, ◌/◌, ◌%◌, List, leb, eqb, length, Ok}
 use Rattle.model.specs.Across.{most_steps}
-use Rattle.refusal.specs.Answer.{Judged}
-use Rattle.std.specs.Prelude.{Ok}
-use Rattle.refusal.specs.Answer.{need, and_then, fitting, written}
+use Rattle.refusal.specs.Answer.{Judged, need, and_then, fitting, written}
 use Rattle.words.specs.Words.{word_at, words}
 use Rattle.records.specs.Records.{part, header_of, when_whole}
 

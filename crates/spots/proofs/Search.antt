@@ -9,8 +9,7 @@ use Rattle.model.specs.Numbering.{event_count}
 use Rattle.table.specs.Decoded.{net_of}
 use Rattle.layout.specs.Laid.{Laid}
 use Rattle.unfolding.specs.Numbers.{Belongs}
-use Rattle.std.specs.Prelude.{Option as Perhaps}
-use Rattle.std.specs.Prelude.{None, Some}
+use Rattle.std.specs.Prelude.{Option as Perhaps, None, Some}
 use Rattle.unfolding.specs.declared.Coloured.{Coloured}
 use Rattle.arcs.proofs.Counts.{arcs_few}
 use Rattle.arcs.specs.Arcs.{arcs_at, Arcs, Shared}

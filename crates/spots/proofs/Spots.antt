@@ -10,7 +10,7 @@ use Rattle.lists.specs.Lists.{sum}
 use Rattle.model.specs.Net.{Net}
 use Rattle.model.specs.Numbering.{size, event_count}
 use Rattle.model.specs.Across.{Refusal, unfolding_refused}
-use Rattle.std.specs.Prelude.{Ok}
+use Rattle.std.specs.Prelude.{Ok, Option as Perhaps, None, Some}
 use Rattle.refusal.proofs.Chain.{never_both, then_fine}
 use Rattle.table.specs.Walk.{judge_of}
 use Rattle.table.specs.Links.{refused_or}
@@ -21,8 +21,6 @@ use Rattle.records.specs.Records.{conditions}
 use Rattle.layout.proofs.Counts.{sum_part, sum_next}
 use Rattle.unfolding.specs.Numbers.{Belongs}
 use Rattle.unfolding.specs.Numbers as numbers
-use Rattle.std.specs.Prelude.{Option as Perhaps}
-use Rattle.std.specs.Prelude.{None, Some}
 use Rattle.unfolding.proofs.Numbered.{events_basic}
 use Rattle.unfolding.specs.declared.Coloured.{Coloured}
 use Rattle.segments.specs.Ranges.{Owned}

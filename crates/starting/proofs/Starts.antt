@@ -11,9 +11,8 @@ use Rattle.model.specs.Unfolding.{basic}
 use Rattle.model.proofs.Lent.{length_bytes, zeros_say}
 use Rattle.model.proofs.Counts.{count_conditions}
 use Rattle.refusal.specs.declared.Refusal.{Refusal}
-use Rattle.refusal.specs.Answer.{Judged}
+use Rattle.refusal.specs.Answer.{Judged, refused_at, written}
 use Rattle.std.specs.Prelude.{Ok, Err}
-use Rattle.refusal.specs.Answer.{refused_at, written}
 use Rattle.refusal.proofs.Chain.{fitting_room, fitting_short}
 use Rattle.records.specs.Records.{conditions}
 use Rattle.table.specs.Walk.{judge_of}

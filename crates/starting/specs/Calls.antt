@@ -3,8 +3,7 @@ use Rattle.std.specs.Prelude.{ℕ, List, length}
 use Rattle.model.specs.Net.{begin}
 use Rattle.model.specs.Lent.{bytes}
 use Rattle.model.specs.Unfolding.{basic}
-use Rattle.refusal.specs.Answer.{Judged}
-use Rattle.refusal.specs.Answer.{fitting, written}
+use Rattle.refusal.specs.Answer.{Judged, fitting, written}
 use Rattle.table.specs.Decoded.{net_of}
 use Rattle.layout.specs.Unfolds.{unfolding_of}
 

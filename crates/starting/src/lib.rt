@@ -1,11 +1,10 @@
 // The start of the unfolding, written to a lent output.
 #![tactic(auto)]
 
-ghost use Rattle.std.specs.Prelude.{◌≡◌, ◌++◌, length, drop};
+ghost use Rattle.std.specs.Prelude.{◌≡◌, ◌++◌, length, drop, Ok};
 ghost use Rattle.model.specs.Net.{begin};
 ghost use Rattle.model.specs.Lent.{bytes};
 ghost use Rattle.model.specs.Unfolding.{basic};
-ghost use Rattle.std.specs.Prelude.{Ok};
 ghost use Rattle.table.specs.Walk.{judge_of};
 ghost use Rattle.table.specs.Decoded.{net_of};
 ghost use Rattle.copies.specs.Writing.{Roomy};

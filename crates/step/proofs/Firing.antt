@@ -13,14 +13,12 @@ use Rattle.lists.specs.Lists.{mem}
 use Rattle.model.specs.Net.{fire, Stop, stopping}
 use Rattle.words.specs.Words.{words}
 use Rattle.records.specs.Records.{flags, pre_part, post_part}
-use Rattle.stopping.specs.Table.{Step}
+use Rattle.stopping.specs.Table.{Step, Cause, step_of}
 use Rattle.std.specs.Prelude.{Err}
 use Rattle.stopping.specs.Causes.{goes}
-use Rattle.stopping.specs.Table.{Cause}
 use Rattle.model.specs.Lent.{bit, bytes, marking}
 use Rattle.step.specs.Lent.{Lent}
 use Rattle.step.specs.Steps.{set_one, set_all, lists_net, record_net, stepped}
-use Rattle.stopping.specs.Table.{step_of}
 use Rattle.model.proofs.Lent.{bytes_are}
 use Rattle.step.proofs.Bytes.{lent_at}
 

@@ -25,16 +25,12 @@ use Rattle.words.specs.Words.{words}
 use Rattle.records.specs.Records.{old_rule, flags, pre_part, post_part}
 use Rattle.held.specs.Held.{held_in, tabled}
 use Rattle.held.proofs.Words.{held_past}
-use Rattle.stopping.specs.Table.{Step}
-use Rattle.std.specs.Prelude.{Ok, Err, None, Some, MatchOption}
-use Rattle.std.specs.Prelude.{Option as Found}
+use Rattle.stopping.specs.Table.{Step, Cause, step_of}
+use Rattle.std.specs.Prelude.{Ok, Err, None, Some, MatchOption, Option as Found}
 use Rattle.std.specs.Option.{option_map}
 use Rattle.stopping.specs.Causes.{goes}
-use Rattle.stopping.specs.Table.{Cause}
-use Rattle.step.specs.Steps.{Failing}
+use Rattle.step.specs.Steps.{Failing, failing_of, lists_net, record_net}
 use Rattle.step.specs.Tests.{lowest, told_of, Listed, Recorded, Keeps, Moves}
-use Rattle.step.specs.Steps.{failing_of, lists_net, record_net}
-use Rattle.stopping.specs.Table.{step_of}
 
 -- ---- the lowest condition that holds, looked for from 0 on
 

@@ -1,6 +1,5 @@
 -- One step on a lent marking: which conditions stop it, what it answers and what it writes.
-use Rattle.std.specs.Prelude.{cond, List, [], ◌∷◌, ℕ, eqb, get_or, set, None, Some}
-use Rattle.std.specs.Prelude.{Option as Found}
+use Rattle.std.specs.Prelude.{cond, List, [], ◌∷◌, ℕ, eqb, get_or, set, None, Some, Option as Found}
 use Rattle.std.proofs.Math.Option.{Option, none, some}
 use Rattle.model.specs.Net.{Net, Stop}
 use Rattle.refusal.specs.declared.TableCondition.{TableCondition}

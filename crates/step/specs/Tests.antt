@@ -1,5 +1,5 @@
 -- A step on words: what stops it, what it needs to know of a table, and what it leaves.
-use Rattle.std.specs.Prelude.{◌≡◌, not, List, ℕ, T, Result, Ok, Err}
+use Rattle.std.specs.Prelude.{◌≡◌, not, List, ℕ, T, Result, Ok, Err, None, Some}
 use Rattle.std.proofs.Math.Option.{Option, none, some}
 use Rattle.lists.specs.Lists.{fits, failing, count}
 use Rattle.model.specs.Net.{Marking, Stop}
@@ -8,12 +8,9 @@ use Rattle.words.specs.Words.{words}
 use Rattle.records.specs.Records.{flags, pre_part, post_part}
 use Rattle.held.specs.Held.{held_in, tabled}
 use Rattle.stopping.specs.declared.Cause.TheVariants.{Lacks, Meets}
-use Rattle.stopping.specs.Table.{Step}
-use Rattle.std.specs.Prelude.{Err}
+use Rattle.stopping.specs.Table.{Step, Cause, cause_of}
 use Rattle.stopping.specs.Causes.{goes}
-use Rattle.stopping.specs.Table.{Cause, cause_of}
 use Rattle.step.specs.Steps.{Failing}
-use Rattle.std.specs.Prelude.{None, Some}
 
 -- The lowest of the first n conditions that holds, if one does.
 unfoldable pub lowest : ℕ → Marking → Option ℕ

@@ -5,9 +5,8 @@ use mathlib.Core.List.{List, []}
 use Rattle.model.specs.Net.{Net}
 use Rattle.words.specs.Words.{words}
 use Rattle.refusal.specs.declared.Refusal.{Refusal}
-use Rattle.refusal.specs.Answer.{Judged}
+use Rattle.refusal.specs.Answer.{Judged, and_then}
 use Rattle.std.specs.Prelude.{Ok, Err}
-use Rattle.refusal.specs.Answer.{and_then}
 use Rattle.records.specs.Records.{conditions, marking_part}
 use Rattle.table.specs.Walk.{judge_of, offset_of}
 use Rattle.table.specs.Decoded.{net_if, net_of}

@@ -1,9 +1,8 @@
 -- The net that a table's bytes say.
-use Rattle.std.specs.Prelude.{ℕ, List, [], false, cond, ltb, eqb, get_or}
+use Rattle.std.specs.Prelude.{ℕ, List, [], false, cond, ltb, eqb, get_or, Ok, Err}
 use Rattle.model.specs.Net.{Net}
 use Rattle.words.specs.Words.{words}
 use Rattle.refusal.specs.Answer.{Judged}
-use Rattle.std.specs.Prelude.{Ok, Err}
 use Rattle.records.specs.Records.{old_rule, conditions, flags, pre_part, post_part, marking_part}
 use Rattle.table.specs.Walk.{judge_of, offset_of}
 

@@ -1,12 +1,9 @@
 -- A refusal of the model as a link of a chain of answers.
-use Rattle.std.specs.Prelude.{ℕ}
+use Rattle.std.specs.Prelude.{ℕ, None, Some}
 use Rattle.std.proofs.Math.Option.{Option, none, some}
 use Rattle.model.specs.Across.{Whose, of_table, of_unfolding, Refusal, stopped, other, number_of, place_of, by_of}
-use Rattle.refusal.specs.Answer.{By}
-use Rattle.std.specs.Prelude.{None, Some}
+use Rattle.refusal.specs.Answer.{By, Judged, refused_by}
 use Rattle.refusal.specs.declared.Condition.TheVariants.{Table, Unfolded}
-use Rattle.refusal.specs.Answer.{Judged}
-use Rattle.refusal.specs.Answer.{refused_by}
 
 -- The condition that stopped a step in its numbering, if one did (02, No. 2).
 abbrev pub by_in : Whose → Option ℕ → By

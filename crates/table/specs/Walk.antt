@@ -1,9 +1,7 @@
 -- The walk that judges a table, record by record, and where its records stand.
-use Rattle.std.specs.Prelude.{Option, None, Some, ℕ, zero, suc, ◌+◌, ◌-◌, List, Bool, false, cond, eqb}
+use Rattle.std.specs.Prelude.{Option, None, Some, ℕ, zero, suc, ◌+◌, ◌-◌, List, Bool, false, cond, eqb, Ok}
 use Rattle.words.specs.Words.{word_at}
-use Rattle.refusal.specs.Answer.{Judged}
-use Rattle.std.specs.Prelude.{Ok}
-use Rattle.refusal.specs.Answer.{refused_at, and_then}
+use Rattle.refusal.specs.Answer.{Judged, refused_at, and_then}
 use Rattle.records.specs.declared.Header.{Header}
 use Rattle.records.specs.Records.{header_of, front, conditions}
 use Rattle.rules.specs.Rules.{rule_of, conditions_of, marking_of}

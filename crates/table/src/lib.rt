@@ -1,8 +1,7 @@
 // A table judged in one pass, its counts, and where its events stand.
 #![tactic(auto)]
 
-ghost use Rattle.std.specs.Prelude.{◌≡◌, ◌≤◌};
-ghost use Rattle.std.specs.Prelude.{Ok};
+ghost use Rattle.std.specs.Prelude.{◌≡◌, ◌≤◌, Ok};
 ghost use Rattle.refusal.specs.Answer.{and_then};
 ghost use Rattle.records.specs.Records.{header_of};
 ghost use Rattle.table.specs.Walk.{kind_is, judge_of, offset_of};

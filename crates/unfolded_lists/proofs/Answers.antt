@@ -12,10 +12,9 @@ use Rattle.lists.specs.Lists.{sum}
 use Rattle.lists.proofs.Stored.{stored_whole}
 use Rattle.model.specs.Unfolding.{basic}
 use Rattle.model.specs.Numbering.{size, event_count}
-use Rattle.refusal.specs.Answer.{Judged}
+use Rattle.refusal.specs.Answer.{Judged, refused_at, fitting, written}
 use Rattle.std.specs.Prelude.{Ok, Err}
 use Rattle.refusal.specs.declared.Refusal.{Refusal}
-use Rattle.refusal.specs.Answer.{refused_at, fitting, written}
 use Rattle.refusal.proofs.Chain.{need_passes, need_refuses, fitting_room, fitting_short}
 use Rattle.table.specs.Decoded.{net_of}
 use Rattle.tally.specs.Having.{list_of}

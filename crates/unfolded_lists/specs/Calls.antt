@@ -1,8 +1,7 @@
 -- What the calls on the lists of an unfolded event answer, and what they leave in a lent output.
 use Rattle.std.specs.Prelude.{ℕ, Bool, List, ltb, length}
 use Rattle.model.specs.Unfolding.{basic}
-use Rattle.refusal.specs.Answer.{Judged}
-use Rattle.refusal.specs.Answer.{need, fitting, written}
+use Rattle.refusal.specs.Answer.{Judged, need, fitting, written}
 use Rattle.table.specs.Decoded.{net_of}
 use Rattle.tally.specs.Having.{list_of}
 use Rattle.layout.specs.Unfolds.{unfolding_of}

@@ -1,9 +1,8 @@
 // The unfolding of a table asked for its counts, and the walks that its numbers share: markers by their places, the event of a number.
 #![tactic(auto)]
 
-ghost use Rattle.std.specs.Prelude.{◌≡◌, ◌+◌, ◌≤◌, ◌<◌, length, get_or};
+ghost use Rattle.std.specs.Prelude.{◌≡◌, ◌+◌, ◌≤◌, ◌<◌, length, get_or, Ok};
 ghost use Rattle.lists.specs.Lists.{index, sum};
-ghost use Rattle.std.specs.Prelude.{Ok};
 ghost use Rattle.model.specs.Runs.{at_start};
 ghost use Rattle.model.specs.Unfolding.{same_marker, markers, basic};
 ghost use Rattle.model.specs.Numbering.{size};

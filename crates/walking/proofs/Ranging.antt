@@ -16,9 +16,8 @@ use Rattle.refusal.specs.declared.UnfoldedCondition.{UnfoldedCondition}
 use Rattle.segments.specs.Ranges.{ranged_from}
 use Rattle.segments.proofs.Ranged.{ranged_on, ranged_end}
 use Rattle.step.specs.Steps.{set_all}
-use Rattle.walking.specs.Steps.{Failing}
+use Rattle.walking.specs.Steps.{Failing, failing_of}
 use Rattle.std.specs.Prelude.{None, Some}
-use Rattle.walking.specs.Steps.{failing_of}
 
 -- ---- a number in a range
 

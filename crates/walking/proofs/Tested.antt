@@ -9,12 +9,10 @@ use Rattle.lists.specs.Lists.{failing}
 use Rattle.model.specs.Net.{Marking, first_stop}
 use Rattle.refusal.specs.declared.UnfoldedCondition.{UnfoldedCondition}
 use Rattle.stopping.specs.declared.Cause.TheVariants.{Lacks, Meets}
-use Rattle.std.specs.Prelude.{Err}
+use Rattle.std.specs.Prelude.{Err, None, Some}
 use Rattle.stopping.specs.Causes.{goes}
 use Rattle.stopping.specs.Unfolded.{step_of}
-use Rattle.walking.specs.Steps.{Failing}
-use Rattle.std.specs.Prelude.{None, Some}
-use Rattle.walking.specs.Steps.{passes_of, failing_of, stops}
+use Rattle.walking.specs.Steps.{Failing, passes_of, failing_of, stops}
 
 found_lacks : (o p : Option ℕ) (b : UnfoldedCondition) → failing_of o ≡ Some b → Err (Lacks b) ≡ step_of (first_stop true o p)
 found_lacks none p b e = absurd (let z : ◌≡◌ {A = ℕ} 0 1 = cc in omega arith)

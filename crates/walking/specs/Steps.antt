@@ -1,19 +1,16 @@
 -- One step of the unfolded net over ranges of unfolded conditions: which of them stop it.
-use Rattle.std.specs.Prelude.{ℕ, ◌+◌, ◌≤◌, ◌<◌, ◌≡◌, Bool, true, false, not, ◌&&◌, ◌||◌, List, T, length}
+use Rattle.std.specs.Prelude.{ℕ, ◌+◌, ◌≤◌, ◌<◌, ◌≡◌, Bool, true, false, not, ◌&&◌, ◌||◌, List, T, length, Ok, Option as Found, None, Some}
 use Rattle.std.proofs.Math.Option.{Option, none, some}
 use Rattle.lists.specs.Lists.{mem, failing}
 use Rattle.model.specs.Net.{Marking, Stop, first_stop}
 use Rattle.model.specs.Unfolding.{basic}
 use Rattle.model.specs.Numbering.{width}
 use Rattle.model.specs.Across.{most_unfolded}
-use Rattle.std.specs.Prelude.{Ok}
 use Rattle.table.specs.Walk.{judge_of}
 use Rattle.table.specs.Decoded.{net_of}
 use Rattle.layout.specs.Laid.{Sums}
 use Rattle.segments.specs.Ranges.{ranged}
-use Rattle.std.specs.Prelude.{Option as Found}
 use Rattle.refusal.specs.declared.UnfoldedCondition.{UnfoldedCondition}
-use Rattle.std.specs.Prelude.{None, Some}
 
 -- What an unfolded condition of a list must pass, by a marking, the preconditions of an event and the conditions under the old rule: it
 -- holds, or it makes no contact (01, Playing the table; 02, No. 4).

@@ -1,8 +1,7 @@
 -- What writing a Run or a Lifted record answers, and what it leaves in the lent bytes.
 use Rattle.std.specs.Prelude.{ℕ, ◌+◌, ◌*◌, List, ◌∷◌, leb, length}
 use Rattle.model.specs.Across.{most_steps}
-use Rattle.refusal.specs.Answer.{Judged}
-use Rattle.refusal.specs.Answer.{need, fitting, written}
+use Rattle.refusal.specs.Answer.{Judged, need, fitting, written}
 use Rattle.words.specs.Words.{bytes_of}
 
 -- What writing answers: the number of bytes, once the run is short enough and they fit (01, Runs across).

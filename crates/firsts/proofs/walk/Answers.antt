@@ -5,8 +5,7 @@ use mathlib.Core.Bool.{true, false}
 use Rattle.table.specs.Decoded.{net_of}
 use Rattle.firsts.specs.Firsts.{no_slots}
 use Rattle.firsts.proofs.Along.{along_start, along_new, along_again, along_repeat, along_end}
-use Rattle.firsts.proofs.Walking.{few_events, start_inside, start_length, start_first, post_inside, post_length, post_first}
-use Rattle.firsts.proofs.Walking.{step_event, step_low, step_inside, step_offset, step_others}
+use Rattle.firsts.proofs.Walking.{few_events, start_inside, start_length, start_first, post_inside, post_length, post_first, step_event, step_low, step_inside, step_offset, step_others}
 use Rattle.firsts.proofs.walk.Goals as goal
 
 pub overflow_cast-events : goal.overflow_cast-events

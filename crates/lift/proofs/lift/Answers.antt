@@ -7,8 +7,7 @@ use Rattle.table.specs.Decoded.{net_of}
 use Rattle.played.proofs.Begun.{begun_plays}
 use Rattle.unfolding.proofs.Owners.{within_laid}
 use Rattle.across.specs.Calls.{fitted}
-use Rattle.lift.proofs.Answers.{lifting_of, lift_refused, lift_went, lift_stopped, lift_runs}
-use Rattle.lift.proofs.Answers.{laid_open, laid_events, laid_judged, laid_few, laid_refused, laid_used}
+use Rattle.lift.proofs.Answers.{lifting_of, lift_refused, lift_went, lift_stopped, lift_runs, laid_open, laid_events, laid_judged, laid_few, laid_refused, laid_used}
 use Rattle.lift.proofs.lift.Goals as goal
 
 pub returns-in_err-events : goal.returns-in_err-events

@@ -5,8 +5,7 @@ use lib.Dec.{ltb}
 use lib.ListN.{length}
 use Rattle.model.specs.Unfolding.{basic}
 use Rattle.std.specs.Prelude.{Ok}
-use Rattle.refusal.specs.Answer.{Judged}
-use Rattle.refusal.specs.Answer.{need, fitting}
+use Rattle.refusal.specs.Answer.{Judged, need, fitting}
 use Rattle.table.specs.Decoded.{net_of}
 use Rattle.tally.specs.Having.{list_of}
 use Rattle.layout.specs.Unfolds.{unfolding_of}
