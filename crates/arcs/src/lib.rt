@@ -138,7 +138,12 @@ pub fn open_transition<'a>(
 }
 
 // What the number after that of an unfolded event names: the next colour of its event, else the first of the next event.
-pub fn next_owner<'a>(table: &'a [u8], events: usize, markers: &'a [u32], own: Coloured) -> Option<Coloured>
+pub fn next_owner<'a>(
+    table: &'a [u8],
+    events: usize,
+    markers: &'a [u32],
+    own: Coloured,
+) -> Option<Coloured>
     requires within { numbers.Within table.now markers.now events }
     requires owner { numbers.Owner table.now (sum (size (net_of table.now)) own.event + own.rest) own.event own.at own.rest own.weight }
     ensures { numbers.Belongs table.now (suc (sum (size (net_of table.now)) own.event + own.rest)) result }

@@ -25,7 +25,12 @@ pub fn ordinary_number(table: &[u8], b: TableCondition) -> Result<usize, Refusal
 }
 
 // The number for a persistent condition with a marker and a user.
-pub fn copy_number(table: &[u8], b: TableCondition, marker: Marker, user: TableEvent) -> Result<usize, Refusal>
+pub fn copy_number(
+    table: &[u8],
+    b: TableCondition,
+    marker: Marker,
+    user: TableEvent,
+) -> Result<usize, Refusal>
     ensures { result ≡ copy_number table.now b.0 marker user.0 }
 {
     let mut markers = [0u32; 256];

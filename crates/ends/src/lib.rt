@@ -39,7 +39,11 @@ fn write_marking<'a>(
 }
 
 // An unfolded run replayed from the unfolded start; the unfolded marking at its end is written to a lent output.
-pub fn unfolded_replay<'a>(table: &'a [u8], lifted: &'a [u16], end: &mut [u8]) -> Result<usize, Refusal>
+pub fn unfolded_replay<'a>(
+    table: &'a [u8],
+    lifted: &'a [u16],
+    end: &mut [u8],
+) -> Result<usize, Refusal>
     ensures answer { result ≡ unfolded_replay_of table.now lifted.now (length end.old) }
     ensures after { end.new ≡ unfolded_replayed_of table.now lifted.now end.old }
 {

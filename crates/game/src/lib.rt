@@ -67,7 +67,11 @@ fn ready<'a>(table: &'a [u8], marking: &'a [u8], e: u16) -> Result<usize, Refusa
 }
 
 // Whether an event has concession at a lent marking.
-pub fn concession<'a>(table: &'a [u8], marking: &'a [u8], event: TableEvent) -> Result<usize, Refusal>
+pub fn concession<'a>(
+    table: &'a [u8],
+    marking: &'a [u8],
+    event: TableEvent,
+) -> Result<usize, Refusal>
     ensures { result ≡ concession_of table.now marking.now event.0 }
 {
     let at = ready(table, marking, event.0)?;

@@ -154,8 +154,6 @@ pub fn locate<'a>(
 {
     match step {
         Ok(()) => Ok(()),
-        Err(cause) => Err(relocated(
-            table, events, markers, users, e, places, kept, cause,
-        )),
+        Err(cause) => Err(relocated(table, events, markers, users, e, places, kept, cause)),
     }
 }

@@ -18,7 +18,12 @@ pub struct Opened {
 }
 
 // A run lifted, and the unfolded marking that its lift ends in; fine: the number of unfolded conditions.
-fn reach_end<'a>(table: &'a [u8], run: &'a [u16], lifted: &mut [u16], end: &mut [u8]) -> Result<usize, Refusal>
+fn reach_end<'a>(
+    table: &'a [u8],
+    run: &'a [u16],
+    lifted: &mut [u16],
+    end: &mut [u8],
+) -> Result<usize, Refusal>
     requires { (length lifted.old ≡ most_steps) × (length end.old ≡ most_unfolded) }
     ensures { Reaches table.now run.now result lifted.new end.new }
 {

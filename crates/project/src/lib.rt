@@ -226,7 +226,12 @@ fn read_back<'a>(before: &'a [u32], events: usize, lifted: &'a [u16], out: &mut 
 }
 
 // The same where the output has room for all of them; fine: how many.
-fn write_back<'a>(before: &'a [u32], events: usize, lifted: &'a [u16], out: &mut [u16]) -> Result<usize, Refusal>
+fn write_back<'a>(
+    before: &'a [u32],
+    events: usize,
+    lifted: &'a [u16],
+    out: &mut [u16],
+) -> Result<usize, Refusal>
     requires { Reading before.now events lifted.now }
     ensures answer { result ≡ fitting (length lifted.now) (length out.old) }
     ensures after { Read before.now events lifted.now (value_of result) out.old out.new }

@@ -199,7 +199,7 @@ pub fn reach<'a>(
         let Some(own) = found else {
             return nowhere(before);
         };
-            let arcs = arcs::open_transition(
+        let arcs = arcs::open_transition(
             table, markers, users, bases, own, marks, uses, starts, sizes,
         );
         if wanted < before + arcs {

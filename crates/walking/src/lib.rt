@@ -139,7 +139,7 @@ fn first_failing<'a>(
     while i < all {
         if let Some(b) = first_in(
             table, bases, contact, state, starts, sizes, ranges, firsts[i], widths[i],
-) {
+        ) {
             return Some(b);
         }
         i = i + 1;
