@@ -3,27 +3,13 @@ use mathlib.Core.Path.{◌≡◌, refl, ap}
 use mathlib.Core.Bool.{Bool, true, false}
 use mathlib.Core.List.{List, [], ◌∷◌}
 use Prim.Native.Nat.{ℕ, suc, ◌+◌, ◌≤◌, ◌<◌}
-use lib.ListN.{length, get_or, drop, drop_of_length-le}
-use lib.Seq.{drop-cons}
-use native.Mathlib.Numerals.{add-one}
+use lib.ListN.{length, get_or}
 use native.Mathlib.Omega.{arith}
 use lib.Dec.{eqb}
 use lib.Bits.{bit_or, or_add_and, and_le_r, or_comm}
-use borrow.Author.Tests.{lt-ltb, le-ltb, eqb-true, eqb-false}
+use borrow.Author.Tests.{le-ltb, eqb-true, eqb-false}
 use Rattle.game.specs.Lent.{first_above}
 use Rattle.game.specs.Ready.{NoneAbove}
-
-module _ (l : List ℕ) (i : ℕ) where
-  pub above_here : i < length l → 1 < get_or l i 0 → first_above (drop i l) ≡ 0
-  above_here h p = rw (drop-cons l i 0 h, lt-ltb 1 (get_or l i 0) p)
-
-  pub above_on : i < length l → get_or l i 0 ≤ 1 → first_above (drop i l) ≡ suc (first_above (drop (i + 1) l))
-  above_on h p = rw (add-one, drop-cons l i 0 h, le-ltb 1 (get_or l i 0) p)
-
-  pub above_end : length l ≤ i → first_above (drop i l) ≡ 0
-  above_end h = rw (drop_of_length-le l h)
-
--- ---- the bits of all bytes together
 
 -- no byte of the first i is above a number
 abbrev pub NoneBefore : List ℕ → ℕ → ℕ → Type 0

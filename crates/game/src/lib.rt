@@ -13,10 +13,8 @@ fn together(state: &[u8]) -> u8
     ensures { NoneAbove state.now result }
 {
     let mut bits: u8 = 0;
-    let mut i: usize = 0;
-    while i < state.len() {
-        bits = bits | state[i];
-        i = i + 1;
+    for byte in state {
+        bits |= *byte;
     }
     bits
 }
@@ -28,14 +26,8 @@ pub fn first_above(state: &[u8]) -> usize
     if together(state) <= 1 {
         return state.len();
     }
-    let mut i: usize = 0;
-    while i < state.len() {
-        if 1 < state[i] {
-            return i;
-        }
-        i = i + 1;
-    }
-    i
+    let above = state.iter().position(|byte| 1 < *byte);
+    above.unwrap_or(state.len())
 }
 
 // A table and a lent marking of it, both judged; fine: the number of events.
