@@ -75,15 +75,7 @@ fn all_pass<'a>(
 ) -> bool
     ensures { result ≡ all (passes_of test flags.now (held_in held) (words pre.now) (words post.now)) (words list.now) }
 {
-    let mut i: usize = 0;
-    while 1 < list.len() - i {
-        if passes(test, flags, held, pre, post, words::word(list, i)) {
-            i = i + 2;
-        } else {
-            return false;
-        }
-    }
-    true
+    words::numbers(list).all(|b| passes(test, flags, held, pre, post, b))
 }
 
 // Whether events e and f, whose records stand at two offsets, may change places when e comes first.

@@ -1,17 +1,22 @@
 -- `apart::all_pass` meets its contract.
-use native.Mathlib.Omega.{arith}
-use mathlib.Core.Path.{◌∙◌, sym}
-use Rattle.apart.proofs.Walked.{one_fails, one_passes, none_left}
+use mathlib.Core.Bool.{Bool}
+use Prim.Native.Nat.{ℕ}
+use borrow.Author.Tests.{tests}
+use mathlib.Core.Path.{sym, ◌∙◌}
+use Rattle.std.proofs.Common.{rules}
+use Rattle.std.proofs.lemmas.Iterator.Consumers.{YieldsList-from_first}
+use Rattle.std.proofs.lemmas.Iterator.Search.{all_from_yields_List}
+use Rattle.lists.proofs.Library.{all_is_all}
+use Rattle.words.specs.Words.{words}
+use Rattle.words.specs.Numbers.{numbers_left}
+use Rattle.held.specs.Held.{held_in}
+use Rattle.apart.specs.Tests.{passes_of}
 use Rattle.apart.proofs.all_pass.Goals as goal
-
-pub loop-i-preserved : goal.loop-i-preserved
-loop-i-preserved c =
-    (omega arith, c.loop-i.invariant.1 ∙ one_passes _ c.args.list.now c.loop-i.i _ c.loop-i-test.true c.word.ensures (sym c.passes.ensures ∙ c.if-passes.true))
-
-pub returns-else-passes : goal.returns-else-passes
-returns-else-passes c =
-    sym (c.loop-i.invariant.1 ∙ one_fails _ c.args.list.now c.loop-i.i _ c.loop-i-test.true c.word.ensures (sym c.passes.ensures ∙ c.if-passes.false))
 
 pub returns : goal.returns
 returns c =
-    sym (c.loop-i.invariant.1 ∙ none_left _ c.args.list.now c.loop-i.i c.loop-i-test.false)
+    let list = words c.args.list.now in
+    let passes : ℕ → Bool = passes_of c.args.test c.args.flags.now (held_in c.args.held) (words c.args.pre.now) (words c.args.post.now) in
+    let numbers = YieldsList-from_first (λ x. x) numbers_left list c.numbers.ensures.left in
+    all_from_yields_List passes c.all.new.self _ c.all.result c.all.ensures.ran numbers (λ x b q k. search (rules, tests))
+    ∙ sym (all_is_all passes list)
