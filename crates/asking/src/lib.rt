@@ -17,10 +17,8 @@ fn write_list(part: &[u8], out: &mut [u16]) -> Result<usize, Refusal>
     if out.len() < count {
         return refusal::refused(16, count);
     }
-    let mut k: usize = 0;
-    while k < count {
-        out[k] = words::word(part, 2 * k);
-        k = k + 1;
+    for (k, number) in out[..count].iter_mut().enumerate() {
+        *number = words::word(part, 2 * k);
     }
     Ok(count)
 }

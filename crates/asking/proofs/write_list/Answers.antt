@@ -1,11 +1,11 @@
 -- `asking::write_list` meets its contract: storing what is left gives what storing the whole list gives.
-use Prim.Native.Nat.{ℕ}
+use Prim.Native.Nat.{ℕ, ◌/◌}
 use native.Mathlib.Omega.{arith}
-use mathlib.Core.Path.{refl, sym, ◌∙◌}
+use mathlib.Core.Path.{sym, ◌∙◌}
 use mathlib.Core.List.{List}
-use lib.ListN.{length-set}
+use lib.ListN.{length, take, length-take}
 use borrow.Author.Tests.{lt-leb, le-leb}
-use Rattle.lists.proofs.Stored.{stored_whole, store_next, store_end}
+use Rattle.lists.proofs.Stored.{stored_all, store_next, store_end}
 use Rattle.words.specs.Words.{words}
 use Rattle.words.proofs.Laws.{length_words, words_at}
 use Rattle.refusal.specs.Answer.{fitting}
@@ -21,26 +21,27 @@ returns-then-out-count c =
       after = rw c.refused.ensures;
     }
 
-pub loop-k-init : goal.loop-k-init
-loop-k-init c = (sym (length_words _), refl, refl)
-
 pub loop-k-preserved : goal.loop-k-preserved
 loop-k-preserved c =
     let loop = c.loop-k in
     let part : List ℕ = c.args.part.now in
-    let value = words_at part loop.k (omega (arith, length_words part, loop.invariant.0, c.loop-k-test.true)) in
-    let step = store_next loop.out (words part) loop.k loop.k 0 (omega (arith, loop.invariant.0, c.loop-k-test.true)) in
-    (loop.invariant.0, simp length-set loop.invariant.1, rw (c.word.ensures, ← value, ← step) loop.invariant.2)
+    let room = length-take (length part / 2) c.args.out.now in
+    let value = words_at part loop.k (omega (arith, length_words part, room)) in
+    let step = store_next loop.number-items (words part) loop.k loop.k 0 (omega (arith, length_words part, room)) in
+    rw (c.word.ensures, ← value, ← step) loop.invariant
 
 pub returns : goal.returns
 unfolding fitting
 returns c =
-    let args = c.args in
+    let part : List ℕ = c.args.part.now in
     let loop = c.loop-k in
     let fits = c.if-out-count.false in
-    let end = store_end loop.out (words args.part.now) loop.k loop.k (omega (arith, loop.invariant.0, c.loop-k-test.false)) in
-    let whole = stored_whole (words args.part.now) args.out.now (omega (arith, loop.invariant.0, fits)) in
+    let count = length_words part in
+    let room = length-take (length part / 2) c.args.out.now in
+    let end = store_end loop.number-items (words part) loop.k loop.k (omega (arith, count, room)) in
+    let whole = stored_all (words part) (take (length part / 2) c.args.out.now) (omega (arith, count, room)) in
+    let stored = sym end ∙ loop.invariant ∙ whole in
     record {
-      answer = rw (← loop.invariant.0) (sym (need_passes 16 _ (le-leb _ _ fits)));
-      after = sym end ∙ loop.invariant.2 ∙ whole;
+      answer = rw count (sym (need_passes 16 _ (le-leb _ _ fits)));
+      after = rw (stored, count);
     }
