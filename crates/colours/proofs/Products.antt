@@ -6,13 +6,13 @@ use native.Mathlib.Decide.{dec_le}
 use native.Mathlib.Nat.{zero-mul, suc-mul, mul-one, one-mul, mul_comm, mul_assoc, min-eq_left, min-eq_right}
 use mathlib.Core.Path.{◌≡◌, refl, sym, ap, ◌∙◌}
 use mathlib.Core.List.{List, [], ◌∷◌}
-use mathlib.Core.Bool.{Bool, true, false, ◌||◌, cond}
+use mathlib.Core.Bool.{Bool, true, false, cond}
 use lib.Dec.{T, eqb}
-use lib.ListN.{length, get_or, take, drop, length-drop, drop_of_length-le}
-use lib.Seq.{take_all, drop-cons, drop-drop}
+use lib.ListN.{length, get_or, take, drop, length-drop}
+use lib.Seq.{take_all, drop-drop}
 use borrow.Author.Tests.{eq-eqb, ne_eqb}
 use Rattle.lists.specs.Lists.{any, index, keep}
-use Rattle.lists.proofs.Bools.{T_of, not-true, or_left, or_right, or_none}
+use Rattle.lists.proofs.Bools.{T_of, not-true, or_left, or_right}
 use Rattle.words.specs.Words.{word_at, words}
 use Rattle.words.proofs.Laws.{words_next, words_end}
 use Rattle.records.specs.Records.{flags}
@@ -34,18 +34,6 @@ capped_carried a b c = rw (mul_comm (capped (a * b)) c, capped_mul c (a * b), mu
 -- the part of a list from a place on, as a lent part has it
 part_from : (xs : List ℕ) (k : ℕ) → take (length xs - k) (drop k xs) ≡ drop k xs
 part_from xs k = take_all (length xs - k) (drop k xs) (simp length-drop (omega arith))
-
--- ---- the first number that passes a test, searched from place i on
-
-module _ (t : ℕ → Bool) (l : List ℕ) (i w : ℕ) (h : 1 < length l - i) (e : w ≡ word_at l i) where
-  pub search_here : t w ≡ true → index t (words (drop i l)) ≡ 0
-  search_here p = rw (words_next l i h, ← e, p)
-
-  pub search_later : t w ≡ false → index t (words (drop i l)) ≡ suc (index t (words (drop (i + 2) l)))
-  search_later p = rw (words_next l i h, ← e, p)
-
-pub search_end : (t : ℕ → Bool) (l : List ℕ) (i : ℕ) → length l - i ≤ 1 → index t (words (drop i l)) ≡ 0
-search_end t l i h = rw (words_end l i h)
 
 -- at place i stands the first number of a list that passes a test, if one does: those before it are not kept
 pub record Front (t : ℕ → Bool) (l : List ℕ) (i : ℕ) : Type 0 where
@@ -128,17 +116,6 @@ pub product_whole : (bytes markers pre : List ℕ) {r : ℕ} → r ≡ capped (1
 product_whole bytes markers pre t = rw (ending_all pre, one-mul (product (radices_in bytes markers (words pre)))) at t
 
 -- ---- no condition is persistent
-
-module _ (bytes : List ℕ) (i : ℕ) (h : i < length bytes) where
-  pub some_here : 1 ≡ get_or bytes i 0 → (found : Bool) → (found || any (eqb 1) (drop i bytes)) ≡ true
-  some_here p true = refl
-  some_here p false = rw (drop-cons bytes i 0 h, eq-eqb 1 (get_or bytes i 0) p)
-
-  pub some_later : (1 ≡ get_or bytes i 0 → ⊥) → any (eqb 1) (drop i bytes) ≡ any (eqb 1) (drop (i + 1) bytes)
-  some_later p = rw (add-one, drop-cons bytes i 0 h, ne_eqb 1 (get_or bytes i 0) p)
-
-pub some_end : (bytes : List ℕ) (i : ℕ) → length bytes ≤ i → (found : Bool) → (found || any (eqb 1) (drop i bytes)) ≡ found
-some_end bytes i h found = rw (drop_of_length-le bytes h) (or_none found)
 
 none_flagged : (bytes : List ℕ) → (T (any (eqb 1) bytes) → ⊥) → (b : ℕ) → flagged_in bytes b ≡ false
 none_flagged [] n b = refl

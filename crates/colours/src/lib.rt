@@ -30,29 +30,15 @@ fn capped_product(a: u32, b: u32) -> u32
 pub fn first_persistent<'a>(flags: &'a [u8], list: &'a [u8]) -> usize
     ensures { result ≡ 2 * index (flagged_in flags.now) (words list.now) }
 {
-    let mut i: usize = 0;
-    while 1 < list.len() - i {
-        if words::byte(flags, words::word_within(list, i) as usize) == 1 {
-            return i;
-        }
-        i = i + 2;
-    }
-    i
+    let place = words::numbers(list).position(|b| words::byte(flags, usize::from(b)) == 1);
+    2 * place.unwrap_or(list.len() / 2)
 }
 
 // Whether some condition is persistent.
 fn some_persistent(flags: &[u8]) -> bool
     ensures { result ≡ any (eqb 1) flags.now }
 {
-    let mut found = false;
-    let mut i: usize = 0;
-    while i < flags.len() {
-        if 1 == flags[i] {
-            found = true;
-        }
-        i = i + 1;
-    }
-    found
+    flags.contains(&1)
 }
 
 // A count times the colours that the last bytes of a list of preconditions leave: a recursion down its persistent ones, capped above

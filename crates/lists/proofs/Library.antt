@@ -1,12 +1,13 @@
 -- What is defined here by the words of the library, which its iterators speak of.
-use Prim.Native.Nat.{ℕ, ◌<◌}
+use Prim.Native.Nat.{ℕ, ◌<◌, ◌≤◌}
+use native.Mathlib.Omega.{arith}
 use native.Mathlib.Numerals.{add-one}
 use lib.Dec.{eqb}
 use lib.ListN.{length}
 use mathlib.Core.Bool.{Bool, true, false, ◌&&◌, ◌||◌, cond}
 use mathlib.Core.List.{List, [], ◌∷◌}
 use mathlib.Core.Path.{◌≡◌, refl, sym, ap}
-use Rattle.std.specs.Prelude.{Option, MatchOption}
+use Rattle.std.specs.Prelude.{Option, None, Some, MatchOption, IfSome}
 use Rattle.std.specs.List.{list_all, list_any, filter, AllWithin, HoldsAt}
 use Rattle.std.specs.Option.{unwrap_or}
 use Rattle.std.proofs.lemmas.Iterator.{index_from_first}
@@ -35,3 +36,8 @@ module _ {A : Type 0} (test : A → Bool) (l : List A) where
       sym (index_from_first (index test) (λ x. test x ≡ true) (λ x. test x ≡ false) refl
       (λ x xs passes. rw passes)
       (λ x xs fails. rw (fails, add-one)) l r found)
+
+-- A place that is found below an end, and the end where none is found.
+pub found_within : (end : ℕ) (r : Option ℕ) → IfSome r (λ i. i < end) → unwrap_or r end ≤ end
+found_within end None below = omega arith
+found_within end (Some i) below = omega arith
