@@ -11,7 +11,7 @@ use Rattle.std.specs.Prelude.{Option, None, Some, MatchOption, IfSome}
 use Rattle.std.specs.List.{list_all, list_any, filter, AllWithin, HoldsAt}
 use Rattle.std.specs.Option.{unwrap_or}
 use Rattle.std.proofs.lemmas.Iterator.{index_from_first}
-use Rattle.lists.specs.Lists.{mem, all, keep, index}
+use Rattle.lists.specs.Lists.{mem, any, all, keep, index}
 
 pub mem_is_any : (k : ℕ) (l : List ℕ) → mem k l ≡ list_any (λ x. eqb k x) l
 mem_is_any k [] = refl
@@ -20,6 +20,10 @@ mem_is_any k (x ∷ xs) = ap (λ (t : Bool). eqb k x || t) (mem_is_any k xs)
 pub all_is_all : (test : ℕ → Bool) (l : List ℕ) → all test l ≡ list_all test l
 all_is_all test [] = refl
 all_is_all test (x ∷ xs) = ap (λ (t : Bool). test x && t) (all_is_all test xs)
+
+pub any_is_any : (test : ℕ → Bool) (l : List ℕ) → any test l ≡ list_any test l
+any_is_any test [] = refl
+any_is_any test (x ∷ xs) = ap (λ (t : Bool). test x || t) (any_is_any test xs)
 
 pub keep_is_filter : (test : ℕ → Bool) (l : List ℕ) → keep test l ≡ filter test l
 keep_is_filter test [] = refl

@@ -1,15 +1,13 @@
--- The two tests as they are made: on one condition, then on a list of them, two bytes at a time.
-use Prim.Native.Nat.{ℕ, zero, suc, ◌+◌, ◌-◌, ◌≤◌, ◌<◌}
+-- The test of a condition as it is made, by the count of its users.
+use Prim.Native.Nat.{ℕ, zero, suc}
 use native.Mathlib.Omega.{arith}
 use mathlib.Core.Path.{◌≡◌, refl, sym, ◌∙◌}
 use mathlib.Core.Bool.{Bool, true, false, cond}
 use mathlib.Core.List.{List}
 use lib.Dec.{ltb}
-use lib.ListN.{length, get_or, drop}
+use lib.ListN.{get_or}
 use borrow.Author.Tests.{lt-ltb}
-use Rattle.lists.specs.Lists.{mem, any}
-use Rattle.words.specs.Words.{word_at, words}
-use Rattle.words.proofs.Laws.{words_next, words_end}
+use Rattle.lists.specs.Lists.{mem}
 use Rattle.colours.specs.Colours.{flagged}
 use Rattle.repeats.specs.Repeats.{others_at}
 
@@ -34,15 +32,3 @@ module _ (s us pre : List ℕ) (b : ℕ) where
         go zero false z = refl
         go (suc zero) false z = absurd (z refl)
         go (suc (suc k)) false z = lt-ltb 1 (suc (suc k)) (omega arith) ∙ sym (lt-ltb 0 (suc (suc k)) (omega arith))
-
--- ---- a list
-
-module _ (s us pre post : List ℕ) (i b : ℕ) (h : 1 < length post - i) (e : b ≡ word_at post i) where
-  pub others_here : others_at s us pre b ≡ true → any (others_at s us pre) (words (drop i post)) ≡ true
-  others_here p = rw (words_next post i h, ← e, p)
-
-  pub others_later : others_at s us pre b ≡ false → any (others_at s us pre) (words (drop i post)) ≡ any (others_at s us pre) (words (drop (i + 2) post))
-  others_later p = rw (words_next post i h, ← e, p)
-
-pub others_end : (s us pre post : List ℕ) (i : ℕ) → length post - i ≤ 1 → any (others_at s us pre) (words (drop i post)) ≡ false
-others_end s us pre post i h = rw (words_end post i h)

@@ -29,14 +29,7 @@ fn used_by_others<'a>(table: &'a [u8], users: &'a [u32], pre: &'a [u8], b: usize
 fn marks_for_others<'a>(table: &'a [u8], users: &'a [u32], pre: &'a [u8], post: &'a [u8]) -> bool
     ensures { result ≡ any (others_at table.now users.now (words pre.now)) (words post.now) }
 {
-    let mut i: usize = 0;
-    while 1 < post.len() - i {
-        if used_by_others(table, users, pre, words::word(post, i) as usize) {
-            return true;
-        }
-        i = i + 2;
-    }
-    false
+    words::numbers(post).any(|b| used_by_others(table, users, pre, usize::from(b)))
 }
 
 // For each event of a table whether it marks for others, in one walk over the table.

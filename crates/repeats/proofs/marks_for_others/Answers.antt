@@ -1,18 +1,21 @@
 -- `repeats::marks_for_others` meets its contract.
-use native.Mathlib.Omega.{arith}
-use mathlib.Core.Path.{◌∙◌, sym}
+use borrow.Author.Tests.{tests}
+use mathlib.Core.Bool.{Bool}
+use mathlib.Core.Path.{sym, ◌∙◌}
+use Prim.Native.Nat.{ℕ}
+use Rattle.std.proofs.Common.{rules}
+use Rattle.std.proofs.lemmas.Iterator.Consumers.{YieldsList-from_first}
+use Rattle.std.proofs.lemmas.Iterator.Search.{any_from_yields_List}
+use Rattle.lists.proofs.Library.{any_is_any}
 use Rattle.words.specs.Words.{words}
-use Rattle.repeats.proofs.Steps.{others_here, others_later, others_end}
+use Rattle.words.specs.Numbers.{numbers_left}
+use Rattle.repeats.specs.Repeats.{others_at}
 use Rattle.repeats.proofs.marks_for_others.Goals as goal
-
-pub returns-then-used_by_others : goal.returns-then-used_by_others
-returns-then-used_by_others c =
-    sym (c.loop-i.invariant.1 ∙ others_here c.args.table.now c.args.users.now (words c.args.pre.now) c.args.post.now c.loop-i.i c.word.result (omega arith) c.word.ensures (sym c.used_by_others.ensures ∙ c.if-used_by_others.true))
-
-pub loop-i-preserved : goal.loop-i-preserved
-loop-i-preserved c =
-    (omega arith, c.loop-i.invariant.1 ∙ others_later c.args.table.now c.args.users.now (words c.args.pre.now) c.args.post.now c.loop-i.i c.word.result (omega arith) c.word.ensures (sym c.used_by_others.ensures ∙ c.if-used_by_others.false))
 
 pub returns : goal.returns
 returns c =
-    sym (c.loop-i.invariant.1 ∙ others_end c.args.table.now c.args.users.now (words c.args.pre.now) c.args.post.now c.loop-i.i (omega arith))
+    let list = words c.args.post.now in
+    let test : ℕ → Bool = others_at c.args.table.now c.args.users.now (words c.args.pre.now) in
+    let numbers = YieldsList-from_first (λ x. x) numbers_left list c.numbers.ensures.left in
+    any_from_yields_List test c.any.new.self _ c.any.result c.any.ensures.ran numbers (λ x b q k. search (rules, tests))
+    ∙ sym (any_is_any test list)
