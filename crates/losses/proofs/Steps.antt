@@ -1,13 +1,11 @@
--- The tests as they are made: on one condition, then on a list of them, two bytes at a time.
-use Prim.Native.Nat.{ℕ, ◌+◌, ◌-◌, ◌≤◌, ◌<◌}
+-- The tests as they are made: on one condition, then on an event.
+use Prim.Native.Nat.{ℕ}
 use mathlib.Core.Path.{◌≡◌}
-use mathlib.Core.Bool.{Bool, true, false}
+use mathlib.Core.Bool.{true, false}
 use mathlib.Core.List.{List}
 use lib.Dec.{eqb}
-use lib.ListN.{length, get_or, drop}
+use lib.ListN.{get_or}
 use Rattle.lists.specs.Lists.{mem, all, any}
-use Rattle.words.specs.Words.{word_at, words}
-use Rattle.words.proofs.Laws.{words_next, words_end}
 use Rattle.colours.specs.Colours.{flagged}
 use Rattle.losses.specs.Tests.{kept_at, steady_at, spent_at, recurs_at}
 
@@ -25,28 +23,6 @@ module _ (s l : List ℕ) (b : ℕ) where
 
   pub spent_counted : flagged s b ≡ false → eqb (get_or l b 0) 0 ≡ spent_at s l b
   spent_counted p = rw p
-
--- ---- a list
-
-module _ (f : ℕ → Bool) (l : List ℕ) (i : ℕ) where
-  module _ (b : ℕ) (h : 1 < length l - i) (e : b ≡ word_at l i) where
-    pub all_on : f b ≡ true → all f (words (drop i l)) ≡ all f (words (drop (i + 2) l))
-    all_on p = rw (words_next l i h, ← e, p)
-
-    pub all_fails : f b ≡ false → all f (words (drop i l)) ≡ false
-    all_fails p = rw (words_next l i h, ← e, p)
-
-    pub any_on : f b ≡ false → any f (words (drop i l)) ≡ any f (words (drop (i + 2) l))
-    any_on p = rw (words_next l i h, ← e, p)
-
-    pub any_here : f b ≡ true → any f (words (drop i l)) ≡ true
-    any_here p = rw (words_next l i h, ← e, p)
-
-  pub all_end : length l - i ≤ 1 → all f (words (drop i l)) ≡ true
-  all_end h = rw (words_end l i h)
-
-  pub any_end : length l - i ≤ 1 → any f (words (drop i l)) ≡ false
-  any_end h = rw (words_end l i h)
 
 -- ---- an event
 

@@ -26,15 +26,7 @@ fn is_kept<'a>(table: &'a [u8], list: &'a [u8], b: usize) -> bool
 fn ordinary_in<'a>(table: &'a [u8], list: &'a [u8], other: &'a [u8]) -> bool
     ensures { result ≡ all (kept_at table.now (words other.now)) (words list.now) }
 {
-    let mut i: usize = 0;
-    while 1 < list.len() - i {
-        if is_kept(table, other, words::word(list, i) as usize) {
-            i = i + 2;
-        } else {
-            return false;
-        }
-    }
-    true
+    words::numbers(list).all(|b| is_kept(table, other, usize::from(b)))
 }
 
 // Whether an event with these lists takes the ordinary conditions that it puts, and no others.
@@ -61,14 +53,7 @@ fn is_spent<'a>(table: &'a [u8], puts: &'a [u32], b: usize) -> bool
 fn spends<'a>(table: &'a [u8], puts: &'a [u32], pre: &'a [u8]) -> bool
     ensures { result ≡ any (spent_at table.now puts.now) (words pre.now) }
 {
-    let mut i: usize = 0;
-    while 1 < pre.len() - i {
-        if is_spent(table, puts, words::word(pre, i) as usize) {
-            return true;
-        }
-        i = i + 2;
-    }
-    false
+    words::numbers(pre).any(|b| is_spent(table, puts, usize::from(b)))
 }
 
 // Whether an event with these lists may come again and change what holds.
