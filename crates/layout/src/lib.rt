@@ -20,19 +20,10 @@ fn idle<'a>(table: &'a [u8], users: &[u32], pre: &'a [u8], post: &'a [u8]) -> bo
     if 1 < pre.len() {
         return false;
     }
-    let mut i: usize = 0;
-    while 1 < post.len() - i {
-        let b = words::word_within(post, i) as usize;
-        if colours::is_persistent(table, b) {
-            if tally::number(users, b) != 0 {
-                return false;
-            }
-        } else {
-            return false;
-        }
-        i = i + 2;
-    }
-    true
+    words::numbers(post).all(|b| {
+        let b = usize::from(b);
+        colours::is_persistent(table, b) && tally::number(users, b) == 0
+    })
 }
 
 // How many copies condition b has: markers times users, or 1 where it is ordinary.
