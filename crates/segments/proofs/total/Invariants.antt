@@ -1,12 +1,9 @@
--- What each turn of a loop in `segments::total` keeps, and what falls.
+-- What each turn of a loop in `segments::total` keeps.
 use mathlib.Core.Path.{◌≡◌}
-use Prim.Native.Nat.{◌*◌, ◌-◌, ◌≤◌}
+use Prim.Native.Nat.{◌*◌, ◌≤◌}
 use lib.ListN.{get_or}
 use Rattle.lists.specs.Lists.{sum}
 use Rattle.segments.proofs.total.Given as goal
 
-abbrev pub invariant-loop-i : goal.invariant-loop-i
-invariant-loop-i l = (l.i ≤ l.ranges) × (l.sum ≤ 4294967295 * l.i) × (l.sum ≡ sum (λ r. get_or l.sizes r 0) l.i)
-
-abbrev pub decreases-loop-i : goal.decreases-loop-i
-decreases-loop-i l = l.ranges - l.i
+abbrev pub invariant-loop-size : goal.invariant-loop-size
+invariant-loop-size l = (l.sum ≤ 4294967295 * l.size-index) × (l.sum ≡ sum (λ r. get_or l.sizes r 0) l.size-index)
