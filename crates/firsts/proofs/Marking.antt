@@ -1,5 +1,5 @@
 -- Conditions marked along a list: each persistent one gets the marker unless it has one.
-use Prim.Native.Nat.{ℕ, ◌+◌, ◌-◌, ◌≤◌, ◌<◌}
+use Prim.Native.Nat.{ℕ, ◌<◌}
 use native.Mathlib.Omega.{arith}
 use native.Mathlib.Decide.{ℕ_discrete}
 use mathlib.Core.Path.{◌≡◌, refl, ap, ◌∙◌}
@@ -7,12 +7,10 @@ use mathlib.Core.Bool.{Bool, true, false, ◌||◌, cond}
 use mathlib.Core.Option.{Option, none, some}
 use mathlib.Core.List.{List, [], ◌∷◌}
 use lib.Dec.{eqb}
-use lib.ListN.{length, set, drop, length-set}
+use lib.ListN.{length, set, length-set}
 use lib.Seq.{get_or-set_same, get_or-set_other}
 use borrow.Author.Tests.{eq-eqb, ne_eqb}
 use Rattle.lists.specs.Lists.{mem}
-use Rattle.words.specs.Words.{word_at, words}
-use Rattle.words.proofs.Laws.{words_next, words_end}
 use Rattle.model.specs.Runs as model
 use Rattle.model.specs.Runs.{marker, or_else}
 use Rattle.refusal.specs.declared.Marker.{Marker}
@@ -90,11 +88,12 @@ all_first s slots m (b ∷ l) d h = all_first s (mark_one s slots m b) m l d (om
 
 -- ---- two bytes at a time
 
-module _ (s list : List ℕ) (i w : ℕ) (h : 1 < length list - i) (e : w ≡ word_at list i) where
-  pub all_next : (slots : List Slot) (m : Marker) → mark_all s slots m (words (drop i list)) ≡ mark_all s (mark_one s slots m w) m (words (drop (i + 2) list))
-  unfolding mark_all
-  all_next slots m = rw (words_next list i h, ← e)
-
-pub all_end : (s list : List ℕ) (i : ℕ) → length list - i ≤ 1 → (slots : List Slot) (m : Marker) → mark_all s slots m (words (drop i list)) ≡ slots
+-- what is left of a list, of which w is the first number
+pub marked_first : (s : List ℕ) (w : ℕ) (rest left : List ℕ) → left ≡ w ∷ rest → (slots : List Slot) (m : Marker) {next : List Slot} → next ≡ mark_one s slots m w
+    → mark_all s next m rest ≡ mark_all s slots m left
 unfolding mark_all
-all_end s list i h slots m = rw (words_end list i h)
+marked_first s w rest left first slots m q = rw (first, q)
+
+pub marked_none : (s left : List ℕ) → left ≡ [] → (slots : List Slot) (m : Marker) → mark_all s slots m left ≡ slots
+unfolding mark_all
+marked_none s left q slots m = rw q

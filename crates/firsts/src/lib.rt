@@ -42,10 +42,8 @@ fn marked<'a>(firsts: Firsts, table: &'a [u8], list: &'a [u8], m: Marker) -> Fir
     ensures { result.slots ≡ mark_all table.now firsts.slots m (words list.now) }
 {
     let mut next = firsts;
-    let mut i: usize = 0;
-    while 1 < list.len() - i {
-        next = mark_one(next, table, words::word(list, i) as usize, m);
-        i = i + 2;
+    for b in words::numbers(list) {
+        next = mark_one(next, table, usize::from(b), m);
     }
     next
 }
@@ -69,18 +67,16 @@ pub fn walk<'a>(
     let none = Firsts { slots: [None; 256] };
     let mut firsts = marked(none, table, start, Marker::Start);
     let mut repeat = None;
-    let mut k: usize = 0;
-    while k < run.len() {
-        let e = run[k];
-        k = k + 1;
-        if seen[e as usize] {
-            if once[e as usize] {
-                repeat = repeat.or(Some(k - 1));
+    for (k, event) in run.iter().enumerate() {
+        let e = *event as usize;
+        if seen[e] {
+            if once[e] {
+                repeat = repeat.or(Some(k));
             }
         } else {
-            seen[e as usize] = true;
-            let post = tally::list_at(table, offsets[e as usize], true);
-            firsts = marked(firsts, table, post, Marker::ByEvent(TableEvent(e)));
+            seen[e] = true;
+            let post = tally::list_at(table, offsets[e], true);
+            firsts = marked(firsts, table, post, Marker::ByEvent(TableEvent(*event)));
         }
     }
     Walked { repeat, firsts }

@@ -7,6 +7,7 @@ use Rattle.firsts.specs.Firsts.{no_slots}
 use Rattle.firsts.proofs.Along.{along_start, along_new, along_again, along_repeat, along_end}
 use Rattle.firsts.proofs.Walking.{few_events, start_inside, start_length, start_first, post_inside, post_length, post_first, step_event, step_low, step_inside, step_offset, step_others}
 use Rattle.firsts.proofs.walk.Goals as goal
+use Rattle.firsts.proofs.walk.Goals.{then-seen-e+then-once-e, then-seen-e+else-once-e, else-seen-e}
 
 pub overflow_cast-events : goal.overflow_cast-events
 overflow_cast-events c =
@@ -33,36 +34,12 @@ pub bounds-seen-e : goal.bounds-seen-e
 bounds-seen-e c =
     omega (arith, step_low _ _ _ _ c.requires.walkable _ _ _ _ c.loop-k.invariant c.loop-k-test.true)
 
-pub overflow_cast-e-then-seen-e : goal.overflow_cast-e-then-seen-e
-overflow_cast-e-then-seen-e c =
-    omega (arith, step_low _ _ _ _ c.requires.walkable _ _ _ _ c.loop-k.invariant c.loop-k-test.true)
-
 pub bounds-once-e : goal.bounds-once-e
 bounds-once-e c =
     omega (arith, step_low _ _ _ _ c.requires.walkable _ _ _ _ c.loop-k.invariant c.loop-k-test.true)
 
-pub loop-k-preserved-then-once-e : goal.loop-k-preserved-then-once-e
-loop-k-preserved-then-once-e c =
-    let low = step_low _ _ _ _ c.requires.walkable _ _ _ _ c.loop-k.invariant c.loop-k-test.true in
-    let m = step_others _ _ _ _ c.requires.walkable _ _ _ _ c.loop-k.invariant c.loop-k-test.true _ c.requires.once true c.if-once-e.true in
-    rw c.or-repeat.ensures (along_repeat _ _ _ _ _ _ c.loop-k.invariant c.loop-k-test.true _ refl low c.if-seen-e.true m _ (omega arith))
-
-pub loop-k-preserved-else-once-e : goal.loop-k-preserved-else-once-e
-loop-k-preserved-else-once-e c =
-    let low = step_low _ _ _ _ c.requires.walkable _ _ _ _ c.loop-k.invariant c.loop-k-test.true in
-    let m = step_others _ _ _ _ c.requires.walkable _ _ _ _ c.loop-k.invariant c.loop-k-test.true _ c.requires.once false c.if-once-e.false in
-    along_again _ _ _ _ _ _ c.loop-k.invariant c.loop-k-test.true _ refl low c.if-seen-e.true m
-
-pub overflow_cast-seen : goal.overflow_cast-seen
-overflow_cast-seen c =
-    omega (arith, step_low _ _ _ _ c.requires.walkable _ _ _ _ c.loop-k.invariant c.loop-k-test.true)
-
 pub bounds-seen-e-else-seen-e : goal.bounds-seen-e-else-seen-e
 bounds-seen-e-else-seen-e c =
-    omega (arith, step_low _ _ _ _ c.requires.walkable _ _ _ _ c.loop-k.invariant c.loop-k-test.true)
-
-pub overflow_cast-e-else-seen-e : goal.overflow_cast-e-else-seen-e
-overflow_cast-e-else-seen-e c =
     omega (arith, step_low _ _ _ _ c.requires.walkable _ _ _ _ c.loop-k.invariant c.loop-k-test.true)
 
 pub offset_bounds-offsets-e : goal.offset_bounds-offsets-e
@@ -81,13 +58,25 @@ marked-firsts-requires-else-seen-e c =
 
 pub loop-k-preserved : goal.loop-k-preserved
 loop-k-preserved c =
-    let j = c.requires.walkable.judged in
-    let low = step_low _ _ _ _ c.requires.walkable _ _ _ _ c.loop-k.invariant c.loop-k-test.true in
-    let e = step_event _ _ _ _ c.requires.walkable _ _ _ _ c.loop-k.invariant c.loop-k-test.true in
-    let o = step_offset _ _ _ _ c.requires.walkable _ _ _ _ c.loop-k.invariant c.loop-k-test.true in
-    let long = post_length _ _ j _ e _ o _ c.list_at-post.ensures _ _ c.loop-k.invariant.firsts.size c.marked-firsts-else-seen-e.ensures in
-    let first = post_first _ _ j _ e _ o _ c.list_at-post.ensures _ _ c.loop-k.invariant.firsts.size c.marked-firsts-else-seen-e.ensures in
-    along_new _ _ _ _ _ _ c.loop-k.invariant c.loop-k-test.true _ refl low c.if-seen-e.false _ long first
+    let walkable = c.requires.walkable in
+    let i = c.loop-k.invariant in
+    let test = c.loop-k-test.true in
+    let j = walkable.judged in
+    let low = step_low _ _ _ _ walkable _ _ _ _ i test in
+    elim c.if-seen-e.branch [
+      | then-seen-e+then-once-e w ↦
+          let m = step_others _ _ _ _ walkable _ _ _ _ i test _ c.requires.once true w.if-once-e.true in
+          rw (w.seen-is, w.firsts-is, w.repeat-is, w.or-repeat.ensures) (along_repeat _ _ _ _ _ _ i test _ refl low w.if-seen-e.true m _ refl)
+      | then-seen-e+else-once-e w ↦
+          let m = step_others _ _ _ _ walkable _ _ _ _ i test _ c.requires.once false w.if-once-e.false in
+          rw (w.seen-is, w.firsts-is, w.repeat-is) (along_again _ _ _ _ _ _ i test _ refl low w.if-seen-e.true m)
+      | else-seen-e w ↦
+          let e = step_event _ _ _ _ walkable _ _ _ _ i test in
+          let o = step_offset _ _ _ _ walkable _ _ _ _ i test in
+          let long = post_length _ _ j _ e _ o _ w.list_at-post.ensures _ _ i.firsts.size w.marked-firsts-else-seen-e.ensures in
+          let first = post_first _ _ j _ e _ o _ w.list_at-post.ensures _ _ i.firsts.size w.marked-firsts-else-seen-e.ensures in
+          rw (w.seen-is, w.firsts-is, w.repeat-is) (along_new _ _ _ _ _ _ i test _ refl low w.if-seen-e.false _ long first)
+    ]
 
 pub returns : goal.returns
 returns c =
