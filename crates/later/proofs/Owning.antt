@@ -1,5 +1,5 @@
 -- An event set as marker along a list: each condition of the list that it alone uses has it, and every other keeps what it had.
-use Prim.Native.Nat.{ℕ, ◌+◌, ◌-◌, ◌≤◌, ◌<◌}
+use Prim.Native.Nat.{ℕ, ◌<◌}
 use native.Mathlib.Omega.{arith}
 use native.Mathlib.Decide.{ℕ_discrete}
 use mathlib.Core.Path.{◌≡◌, refl, ap, ◌∙◌}
@@ -7,12 +7,10 @@ use mathlib.Core.Bool.{Bool, true, false, ◌&&◌, ◌||◌, cond, and-false}
 use mathlib.Core.Option.{Option, some}
 use mathlib.Core.List.{List, [], ◌∷◌}
 use lib.Dec.{eqb}
-use lib.ListN.{length, get_or, set, drop, length-set}
+use lib.ListN.{length, get_or, set, length-set}
 use lib.Seq.{get_or-set_same, get_or-set_other}
 use borrow.Author.Tests.{eq-eqb, ne_eqb}
 use Rattle.lists.specs.Lists.{mem}
-use Rattle.words.specs.Words.{word_at, words}
-use Rattle.words.proofs.Laws.{words_next, words_end}
 use Rattle.model.specs.Runs.{Marker, by_event}
 use Rattle.refusal.specs.declared.Marker.TheVariants.{ByEvent}
 use Rattle.colours.specs.Colours.{flagged}
@@ -98,13 +96,13 @@ module _ (s us pre : List ℕ) (e : ℕ) where
           (ap (λ (x : Option Marker). cond (only_at s us pre b && mem b l) (some (by_event e)) x) (one_here slots b (omega (arith, z)))
           ∙ twice (only_at s us pre b) (mem b l) (some (by_event e)) (first_at slots b))
 
-  -- ---- two bytes at a time
+  -- ---- one number at a time
 
-  pub own_next : (post : List ℕ) (i b : ℕ) → 1 < length post - i → b ≡ word_at post i → (slots : List Slot)
-      → own_all s us pre e slots (words (drop i post)) ≡ own_all s us pre e (own_one s us pre e slots b) (words (drop (i + 2) post))
+  pub own_next : (b : ℕ) (rest left : List ℕ) → left ≡ b ∷ rest → (slots : List Slot) {next : List Slot} → next ≡ own_one s us pre e slots b
+      → own_all s us pre e next rest ≡ own_all s us pre e slots left
   unfolding own_all
-  own_next post i b h q slots = rw (words_next post i h, ← q)
+  own_next b rest left first slots q = rw (first, q)
 
-  pub own_end : (post : List ℕ) (i : ℕ) → length post - i ≤ 1 → (slots : List Slot) → own_all s us pre e slots (words (drop i post)) ≡ slots
+  pub own_end : (left : List ℕ) → left ≡ [] → (slots : List Slot) → own_all s us pre e slots left ≡ slots
   unfolding own_all
-  own_end post i h slots = rw (words_end post i h)
+  own_end left q slots = rw q

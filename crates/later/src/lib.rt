@@ -38,13 +38,11 @@ fn own_all<'a>(
 {
     let own = Some(Marker::ByEvent(TableEvent(e)));
     let mut next = firsts;
-    let mut i: usize = 0;
-    while 1 < post.len() - i {
-        let b = words::word_within(post, i) as usize;
+    for b in words::numbers(post) {
+        let b = usize::from(b);
         if only_user(table, users, pre, b) {
             next.slots[b] = own;
         }
-        i = i + 2;
     }
     next
 }
