@@ -13,7 +13,7 @@ use Rattle.model.specs.Numbering.{size, condition_count}
 use Rattle.table.specs.Decoded.{net_of}
 use Rattle.table.proofs.Decoded.{conditions_are_all}
 use Rattle.tally.specs.Having.{list_part, Members}
-use Rattle.tally.proofs.Events.{judged}
+use Rattle.table.proofs.InOrder.{judged}
 use Rattle.segments.specs.Ranges.{chosen_from, Owned}
 use Rattle.segments.proofs.Listed.{known, all_conditions}
 use Rattle.sides.specs.declared.Side.{Side}

@@ -13,7 +13,7 @@ use Rattle.model.specs.Numbering.{size, event_count}
 use Rattle.table.specs.Walk.{offset_of}
 use Rattle.table.specs.Decoded.{net_of}
 use Rattle.tally.specs.Having.{list_part}
-use Rattle.tally.proofs.Events.{walk_next, walk_within}
+use Rattle.table.proofs.InOrder.{walk_next, walk_within}
 use Rattle.colours.specs.Colours.{radices, product, capped}
 use Rattle.layout.proofs.Counts.{sum_next}
 use Rattle.unfolding.specs.Numbers.{Within, Owner}

@@ -26,7 +26,8 @@ use Rattle.model.proofs.Counts.{distinct_users}
 use Rattle.table.specs.Decoded.{net_of}
 use Rattle.tally.specs.Having.{Listed}
 use Rattle.table.proofs.Ruled.{rule_read}
-use Rattle.tally.proofs.Events.{judged, within_limits, list_read, list_ascends, list_inside}
+use Rattle.table.proofs.InOrder.{judged}
+use Rattle.tally.proofs.Events.{within_limits, list_read, list_ascends, list_inside}
 use Rattle.std.specs.Prelude.{Err, None, Some}
 use Rattle.stopping.specs.Causes.{goes}
 use Rattle.stopping.specs.declared.Cause.TheVariants.{Lacks, Meets}

@@ -18,7 +18,7 @@ use Rattle.model.proofs.Counts.{count_conditions}
 use Rattle.table.specs.Decoded.{net_of}
 use Rattle.table.specs.Links.{refused_or}
 use Rattle.tally.specs.Having.{list_of}
-use Rattle.tally.proofs.Events.{judged}
+use Rattle.table.proofs.InOrder.{judged}
 use Rattle.segments.specs.Ranges.{Owned}
 use Rattle.model.specs.Lent.{bit, bytes, marking}
 use Rattle.model.proofs.Lent.{bytes_are}

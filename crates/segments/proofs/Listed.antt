@@ -18,7 +18,8 @@ use Rattle.table.specs.Decoded.{net_of}
 use Rattle.table.proofs.Decoded.{conditions_are_all}
 use Rattle.tally.specs.Having.{list_of, list_part, Listed, Members, Tally}
 use Rattle.records.specs.Records.{conditions}
-use Rattle.tally.proofs.Events.{judged, list_read, list_inside, list_ascends}
+use Rattle.table.proofs.InOrder.{judged}
+use Rattle.tally.proofs.Events.{list_read, list_inside, list_ascends}
 use Rattle.unfolding.specs.Numbers.{choices_of}
 use Rattle.unfolding.proofs.Numbered.{origin_is}
 use Rattle.unfolding.proofs.Owners.{within_laid, before_few}

@@ -12,7 +12,7 @@ use Rattle.records.specs.Records.{old_rule}
 use Rattle.table.specs.Decoded.{net_of}
 use Rattle.table.proofs.Ruled.{rule_read}
 use Rattle.tally.specs.Having.{one_at}
-use Rattle.tally.proofs.Events.{judged}
+use Rattle.table.proofs.InOrder.{judged}
 use Rattle.colours.specs.Colours.{flagged}
 use Rattle.segments.specs.Ranges.{ranged, within, event_at, size_if}
 use Rattle.segments.proofs.Ranged.{spread_same}

@@ -15,7 +15,6 @@ use Rattle.table.specs.Tabled.{Tabled}
 use Rattle.table.proofs.Decoded.{net_judged}
 use Rattle.table.proofs.Sound.{tabled}
 use Rattle.table.proofs.InOrder.{judged}
-pub use Rattle.table.proofs.InOrder.{judged, walk_next, walk_within}
 use Rattle.tally.specs.Having.{list_of, list_part}
 
 module _ (s : List ℕ) (e : ℕ) (h : e < (net_of s).events) where

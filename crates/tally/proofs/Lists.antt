@@ -6,15 +6,14 @@ use mathlib.Core.Path.{◌≡◌, refl, ap, ◌∙◌}
 use mathlib.Core.List.{List, [], ◌∷◌}
 use mathlib.Core.Bool.{Bool, true, false, ◌||◌}
 use lib.Dec.{T, eqb, eqb_refl, leb, leb→le}
-use lib.ListN.{length, get_or, drop, set, length-set}
+use lib.ListN.{length, get_or, set, length-set}
 use lib.Seq.{get_or-set_same, get_or-set_other}
 use borrow.Author.Tests.{eq-eqb, ne_eqb}
 use Rattle.lists.specs.Lists.{mem, ascending_from}
 use Rattle.lists.proofs.Bools.{or_left, or_right, is_false, and_left, and_right}
 use Rattle.lists.proofs.Members.{mem_in}
 use Rattle.lists.proofs.Distinct.{ascending_least}
-use Rattle.words.specs.Words.{word_at, words}
-use Rattle.words.proofs.Laws.{words_next}
+use Rattle.words.specs.Words.{words}
 use Rattle.tally.specs.Having.{raised}
 
 -- ---- one number raised
@@ -31,14 +30,6 @@ set_low l i k h b = go (ℕ_discrete b i)
         same [] i q = omega arith
         same (x ∷ l) zero q = omega arith
         same (x ∷ l) (suc i) q = same l i q
-
--- the members of what is left of a list, at the number that stands at i
-module _ (counts list : List ℕ) (i w : ℕ) (h : 1 < length list - i) (e : w ≡ word_at list i) where
-  pub inside_here : (k : ℕ) → ((b : ℕ) → T (mem b (words (drop i list))) → b < k) → w < k
-  inside_here k f = f w (rw (words_next list i h, ← e) (or_left (eqb w w) (mem w (words (drop (i + 2) list))) (eqb_refl w)))
-
-  pub inside_later : (k : ℕ) → ((b : ℕ) → T (mem b (words (drop i list))) → b < k) → (b : ℕ) → T (mem b (words (drop (i + 2) list))) → b < k
-  inside_later k f b t = f b (rw (words_next list i h) (or_right (eqb b (word_at list i)) (mem b (words (drop (i + 2) list))) t))
 
 -- what is left of a list, of which w is the first number
 module _ (w : ℕ) (rest left : List ℕ) (first : left ≡ w ∷ rest) where

@@ -1,5 +1,5 @@
 -- `firing::lend` meets its contract.
-use mathlib.Core.Path.{◌≡◌, ◌∙◌}
+use mathlib.Core.Path.{◌≡◌}
 use Rattle.std.proofs.Common.{rules}
 use Rattle.firing.proofs.Lends.{lend_refused, count_is, lend_long, lend_above, lend_fine}
 use Rattle.firing.proofs.lend.Goals as goal
