@@ -14,7 +14,7 @@ use Rattle.model.specs.Runs.{runs, end, opening, replay}
 use Rattle.model.specs.Unfolding.{basic}
 use Rattle.model.specs.Lent.{bytes}
 use Rattle.model.specs.Exchange.{exchanged}
-use Rattle.model.specs.Across.{Answer, run, refusal, of_table, stopped, other, unless, stuck, most_steps, too_long, unfolding_refused, lifting, lift, read_back, projecting, project, exchanging, exchange}
+use Rattle.model.specs.Across.{Answer, run, refusal, of_table, stopped, other, unless, stuck, most_steps, too_long, unfolding_refused, lift, read_back, projecting, project, exchanging, exchange}
 use Rattle.model.specs.Demands.{Correspond, Projects}
 use Rattle.model.proofs.Answers.{unless_run, not_stuck, stuck_none, exchanging_run, short_length, length_short}
 use Rattle.model.proofs.Exchange.{exchanged_twice, length_exchanged}

@@ -1,27 +1,26 @@
 -- Demand 1 for every call: it is worked, or refused with a number of its list, and then its lent output, which stands here as the
 -- memory at exit, is as it was at entry. The reader's `record` is left out, of whose contract no reading is shown (docs/DECISIONS.md, 44).
-use mathlib.Core.Path.{◌≡◌, sym, ap, ◌∙◌}
-use mathlib.Core.Bool.{true, false}
-use mathlib.Core.List.{List, ◌∷◌}
+use mathlib.Core.Path.{◌≡◌, sym, ◌∙◌}
+use mathlib.Core.Bool.{Bool, true, false}
+use mathlib.Core.List.{List}
 use Prim.Native.Nat.{ℕ}
 use lib.Dec.{T}
 use lib.ListN.{length}
-use Rattle.lists.specs.Lists.{mem}
 use Rattle.refusal.specs.declared.Refusal.{Refusal}
 use Rattle.refusal.specs.Answer.{Judged, written}
-use Rattle.std.specs.Prelude.{Err}
+use Rattle.std.specs.Prelude.{Ok, Err}
+use Rattle.model.specs.Unfolding.{origin}
 use Rattle.table.specs.Decoded.{net_of}
-use Rattle.parts.specs.Asked.{asked_of, asked_condition_of, persistence_number}
-use Rattle.parts.proofs.Told.{persistence_number_lem}
+use Rattle.parts.specs.Asked.{asked_of, asked_condition_of, persistence_if, persistence_of}
 use Rattle.game.specs.Calls.{leaves, fire_of, fired_of}
 use Rattle.replay.specs.Calls.{replay_of, end_of, replay_from_of, end_from_of}
 use Rattle.exchange.specs.Calls.{exchange_of, exchanged_of}
 use Rattle.runs.specs.Runs.{run_kind, lifted_kind, read_answer, run_into}
 use Rattle.writing.specs.Writing.{write_answer, record_into}
 use Rattle.event_numbers.specs.Answers as unfolded
-use Rattle.events.specs.Answers.{origin_judged}
+use Rattle.events.specs.Answers.{origin_if, origin_judged, origin_of}
 use Rattle.condition_numbers.specs.Answers.{numbered}
-use Rattle.conditions.specs.Origins.{condition_judged, origin_number}
+use Rattle.conditions.specs.Origins.{condition_at, condition_judged, told_if, condition_origin_of}
 use Rattle.elements.specs.Calls.{element_count_of, element_of, element_written_of}
 use Rattle.unfolded_lists.specs.Calls.{unfolded_list_of, unfolded_listed_of}
 use Rattle.starting.specs.Calls.{unfolded_start_of, unfolded_started_of}
@@ -34,8 +33,7 @@ use Rattle.asking.specs.Calls.{preconditions_of, preconditions_into, postconditi
 use Rattle.losses.specs.Calls.{lossy_of, lossy_into}
 use Rattle.listing.specs.Calls.{piece_of, files_of}
 use Rattle.promises.specs.Refused.{of_list, of_table_start, of_lossy, of_files, of_piece, of_numbering, of_listing, of_start, of_unfolded_firing, of_lift, of_project, of_table, of_asking, of_firing, of_replay, of_replay_from, of_exchange, of_unfolding, of_reading, of_writing, listed, Refusing}
-use Rattle.promises.proofs.Refused.{listed_need, zero_listed, judge_listed, judged_listed, firing_listed, replay_listed, replay_from_listed, exchange_listed, record_listed, preconditions_listed, postconditions_listed, start_listed, lossy_listed, files_listed, piece_listed, unfolding_of_listed, listing_listed, element_listed, unfolded_start_listed, unfolded_fire_listed, lift_listed, lift_end_listed, project_listed, unfolded_replay_listed, read_listed, write_listed}
-use Rattle.promises.proofs.Told.{condition_number_lem, event_answer}
+use Rattle.promises.proofs.Refused.{listed_need, judge_listed, judged_listed, firing_listed, replay_listed, replay_from_listed, exchange_listed, record_listed, preconditions_listed, postconditions_listed, start_listed, lossy_listed, files_listed, piece_listed, unfolding_of_listed, listing_listed, element_listed, unfolded_start_listed, unfolded_fire_listed, lift_listed, lift_end_listed, project_listed, unfolded_replay_listed, read_listed, write_listed}
 use Rattle.table.proofs.judge.Reads as judge
 use Rattle.table.proofs.condition_count.Reads as condition-count
 use Rattle.table.proofs.event_count.Reads as event-count
@@ -173,14 +171,30 @@ unfolded_condition_count_refused κs a r x h = rw h (unfolding_of_listed of_unfo
 pub unfolded_event_count_refused : (κs : _) (a : _) (r : _) (x : _) → unfolded-event-count.Learnt κs a r x → T (listed of_unfolding r)
 unfolded_event_count_refused κs a r x h = rw h (unfolding_of_listed of_unfolding a.0.now _ tt tt)
 
-pub persistent_refused : (κs : _) (a : _) (r : _) (x : _) → persistent.Learnt κs a r x → T (mem (persistence_number r) (0 ∷ of_asking))
-unfolding asked_condition_of
-persistent_refused κs a r x h =
-    zero_listed of_asking (asked_condition_of a.0.now a.1.0.0) (ap persistence_number h ∙ persistence_number_lem a.0.now a.1.0.0) (judged_listed of_asking a.0.now _ tt (λ n. listed_need of_asking _ 10 0 _ tt tt))
+persistence_listed : (s : List ℕ) (b : ℕ) → T (listed of_asking (persistence_of s b))
+unfolding persistence_of asked_condition_of
+persistence_listed s b =
+    go (asked_condition_of s b) ((net_of s).persistent b) (judged_listed of_asking s _ tt (λ n. listed_need of_asking _ 10 0 _ tt tt))
+  where
+    go : (a : Judged) (flag : Bool) → T (listed of_asking a) → T (listed of_asking (persistence_if a flag))
+    go (Ok at) true t = tt
+    go (Ok at) false t = tt
+    go (Err x) flag t = t
 
-pub event_origin_refused : (κs : _) (a : _) (r : _) (x : _) → event-origin.Learnt κs a r x → T (listed of_numbering r.answer)
-unfolding origin_judged
-event_origin_refused κs a r x h = rw (h, event_answer a.0.now a.1.0.0) (unfolding_of_listed of_numbering a.0.now _ tt (listed_need of_numbering _ 10 0 _ tt tt))
+pub persistent_refused : (κs : _) (a : _) (r : _) (x : _) → persistent.Learnt κs a r x → T (listed of_asking r)
+persistent_refused κs a r x h = rw h (persistence_listed a.0.now a.1.0.0)
+
+-- what is told of an unfolded event
+pub event_listed : (s : List ℕ) (j : ℕ) → T (listed of_numbering (origin_of s j))
+unfolding origin_of origin_judged
+event_listed s j = go (origin_judged s j) (unfolding_of_listed of_numbering s _ tt (listed_need of_numbering _ 10 0 _ tt tt))
+  where
+    go : (a : Judged) → T (listed of_numbering a) → T (listed of_numbering (origin_if a (origin (net_of s) j)))
+    go (Ok k) t = tt
+    go (Err x) t = t
+
+pub event_origin_refused : (κs : _) (a : _) (r : _) (x : _) → event-origin.Learnt κs a r x → T (listed of_numbering r)
+event_origin_refused κs a r x h = rw h (event_listed a.0.now a.1.0.0)
 
 pub event_number_refused : (κs : _) (a : _) (r : _) (x : _) → event_number.Learnt κs a r x → T (listed of_numbering r)
 unfolding unfolded.number_of
@@ -194,10 +208,17 @@ pub copy_number_refused : (κs : _) (a : _) (r : _) (x : _) → copy_number_lem.
 unfolding numbered
 copy_number_refused κs a r x h = rw h (unfolding_of_listed of_numbering a.0.now _ tt (listed_need of_numbering _ 10 0 _ tt tt))
 
-pub condition_origin_refused : (κs : _) (a : _) (r : _) (x : _) → condition-origin.Learnt κs a r x → T (mem (origin_number r) (0 ∷ of_numbering))
-unfolding condition_judged
-condition_origin_refused κs a r x h =
-    zero_listed of_numbering (condition_judged a.0.now a.1.0.0) (ap origin_number h ∙ condition_number_lem a.0.now a.1.0.0) (unfolding_of_listed of_numbering a.0.now _ tt (listed_need of_numbering _ 10 0 _ tt tt))
+-- what is told of an unfolded condition
+pub condition_listed : (s : List ℕ) (i : ℕ) → T (listed of_numbering (condition_origin_of s i))
+unfolding condition_origin_of condition_judged
+condition_listed s i = go (condition_judged s i) (unfolding_of_listed of_numbering s _ tt (listed_need of_numbering _ 10 0 _ tt tt))
+  where
+    go : (a : Judged) → T (listed of_numbering a) → T (listed of_numbering (told_if a (condition_at (net_of s) i)))
+    go (Ok k) t = tt
+    go (Err x) t = t
+
+pub condition_origin_refused : (κs : _) (a : _) (r : _) (x : _) → condition-origin.Learnt κs a r x → T (listed of_numbering r)
+condition_origin_refused κs a r x h = rw h (condition_listed a.0.now a.1.0.0)
 
 pub record_at_refused : (κs : _) (a : _) (r : _) (x : _) → record-at.Learnt κs a r x → T (listed of_table r)
 record_at_refused κs a r x h = rw h (record_listed a.0.now a.1.0)

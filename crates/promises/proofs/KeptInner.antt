@@ -15,16 +15,15 @@ use Rattle.held.specs.Held.{held_in}
 use Rattle.model.specs.Across.{stuck, too_long, unfolding_refused}
 use Rattle.model.specs.Across as model
 use Rattle.table.specs.Decoded.{net_of}
-use Rattle.stopping.specs.Table.{Cause, Step, step_of, cause_place, stopped_at, answered_of}
+use Rattle.stopping.specs.Table.{Cause, Step, step_of}
 use Rattle.stopping.specs.declared.Cause.TheVariants.{Unknown, Lacks, Meets}
-use Rattle.std.specs.Prelude.{Err}
-use Rattle.stopping.specs.Causes.{goes}
+use Rattle.std.specs.Prelude.{Result, Ok, Err}
+use Rattle.refusal.specs.declared.Condition.{Condition}
+use Rattle.refusal.specs.declared.Refusal.{Refusal}
+use Rattle.stopping.specs.declared.Cause as declared
+use Rattle.stopping.specs.Causes.{goes, cause_place, refusal_at, refusal_of}
+use Rattle.played.specs.Played.{ended}
 use Rattle.step.specs.Steps.{record_net, stepped}
-use Rattle.unfolded_step.specs.declared.Cause as unfolded-cause
-use Rattle.stopping.specs.declared.Cause.TheVariants as unfolded-causes
-use Rattle.unfolded_step.specs.declared.Step as unfolded-step
-use Rattle.unfolded_step.specs.declared.Step.TheVariants as unfolded-steps
-use Rattle.unfolded_step.specs.Steps as unfolded
 use Rattle.game.specs.Calls.{on_marking}
 use Rattle.played.specs.Begun.{begun_at}
 use Rattle.across.specs.Prepared.{prepared_of}
@@ -36,10 +35,8 @@ use Rattle.rules.proofs.conditions_record.Reads as conditions-record
 use Rattle.event_rules.proofs.event_record.Reads as event-record
 use Rattle.rules.proofs.marking_record.Reads as marking-record
 use Rattle.game.proofs.judge_lent.Reads as judge-lent
-use Rattle.step.proofs.stopped_at.Reads as stopped-at
-use Rattle.step.proofs.answered.Reads as answered
-use Rattle.unfolded_step.proofs.stopped_at.Reads as unfolded-stopped-at
-use Rattle.unfolded_step.proofs.answered.Reads as unfolded-answered
+use Rattle.stopping.proofs.Cause.at.Reads as cause-at
+use Rattle.stopping.proofs.RefusalFromCause.from.Reads as refusal-from
 use Rattle.step.proofs.step_at.Reads as step_at
 use Rattle.played.proofs.step_event.Reads as step_event
 use Rattle.played.proofs.play.Reads as play
@@ -68,35 +65,20 @@ pub judge_lent_refused : (κs : _) (a : _) (r : _) (x : _) → judge-lent.Learnt
 unfolding on_marking
 judge_lent_refused κs a r x h = rw h (judged_listed of_lent a.0.now _ tt (λ n. lent_listed of_lent (net_of a.0.now).conditions a.1.0.now _ tt tt))
 
-cause_listed : (cause : Cause) (place : ℕ) → T (listed of_step (stopped_at cause place))
-cause_listed Unknown place = tt
-cause_listed (Lacks b) place = tt
-cause_listed (Meets b) place = tt
+cause_listed : {C : Type 0} (numbered : C → Condition) (cause : declared.Cause C) (place : ℕ)
+    → T (listed {A = ℕ} of_step (Err (refusal_at numbered cause place)))
+cause_listed numbered Unknown place = tt
+cause_listed numbered (Lacks b) place = tt
+cause_listed numbered (Meets b) place = tt
 
-pub stopped_at_refused : (κs : _) (a : _) (r : _) (x : _) → stopped-at.Learnt κs a r x → T (listed of_step r)
-stopped_at_refused κs a r x h = rw h (cause_listed a.0 a.1.0)
+firing_cause_listed : {C : Type 0} (numbered : C → Condition) (cause : declared.Cause C) → T (listed {A = ℕ} of_step (Err (refusal_of numbered cause)))
+firing_cause_listed numbered cause = cause_listed numbered cause (cause_place numbered cause)
 
-pub answered_refused : (κs : _) (a : _) (r : _) (x : _) → answered.Learnt κs a r x → T (listed of_step r)
-answered_refused κs a r x h = rw h (go a.0 a.1.0)
-  where
-    go : (step : Step) (value : ℕ) → T (listed of_step (answered_of step value))
-    go goes value = tt
-    go (Err cause) value = cause_listed cause (cause_place cause)
+pub at_refused : (g n c d k i j κs a : _) (r : _) (x : _) → cause-at.Learnt g n c d k i j κs a r x → T (listed {A = ℕ} of_step (Err r))
+at_refused g n c d k i j κs a r x h = rw h (cause_listed _ a.0 a.1.0)
 
-unfolded_cause_listed : (cause : unfolded-cause.Cause) (place : ℕ) → T (listed of_step (unfolded.stopped_at cause place))
-unfolded_cause_listed unfolded-causes.Unknown place = tt
-unfolded_cause_listed (unfolded-causes.Lacks b) place = tt
-unfolded_cause_listed (unfolded-causes.Meets b) place = tt
-
-pub unfolded_stopped_at_refused : (κs : _) (a : _) (r : _) (x : _) → unfolded-stopped-at.Learnt κs a r x → T (listed of_step r)
-unfolded_stopped_at_refused κs a r x h = rw h (unfolded_cause_listed a.0 a.1.0)
-
-pub unfolded_answered_refused : (κs : _) (a : _) (r : _) (x : _) → unfolded-answered.Learnt κs a r x → T (listed of_step r)
-unfolded_answered_refused κs a r x h = rw h (go a.0 a.1.0)
-  where
-    go : (step : unfolded-step.Step) (value : ℕ) → T (listed of_step (unfolded.answered_of step value))
-    go unfolded-steps.Goes value = tt
-    go (unfolded-steps.Stops cause) value = unfolded_cause_listed cause (unfolded.cause_place cause)
+pub from_refused : (g n c d k i j κs a : _) (r : _) (x : _) → refusal-from.Learnt g n c d k i j κs a r x → T (listed {A = ℕ} of_step (Err r))
+from_refused g n c d k i j κs a r x h = rw h (firing_cause_listed _ a.0)
 
 -- a step that is stopped leaves what it was lent
 stepped_kept : (o : Option Stop) (r : Step) (c : Cause) (new old out : List ℕ) → r ≡ step_of o → out ≡ stepped o new old → r ≡ Err c → out ≡ old
@@ -109,11 +91,17 @@ step_at_refused κs a r x h c g = stepped_kept (stopping (record_net a.0.now a.1
 pub step_event_refused : (κs : _) (a : _) (r : _) (x : _) → step_event.Learnt κs a r x → (c : Cause) → r ≡ Err c → x.1.1.1.1.0.now ≡ a.1.1.1.1.0.now
 step_event_refused κs a r x h c g = stepped_kept (stopping (net_of a.0.now) (marking a.1.1.1.1.0.now) a.1.1.1.0) r c _ a.1.1.1.1.0.now x.1.1.1.1.0.now h.0 h.1 g
 
-pub play_refused : (κs : _) (a : _) (r : _) (x : _) → play.Learnt κs a r x → T (listed of_steps r.answer)
+pub play_refused : (κs : _) (a : _) (r : _) (x : _) → play.Learnt κs a r x → T (listed of_steps r)
 play_refused κs a r x h =
+    let n = net_of a.0.now in
     let run = a.1.1.1.0.now in
-    let played = replay (net_of a.0.now) 0 (begun_at (net_of a.0.now) (held_in a.1.1.1.1.0)) run in
-    rw h.told (listed_or of_steps (too_long run) _ (long_listed of_steps run tt) (listed_or of_steps (stuck model.of_table played) _ (stuck_listed of_steps model.of_table played tt tt tt) tt))
+    let played = replay n 0 (begun_at n (held_in a.1.1.1.1.0)) run in
+    let stuck_is = listed_or of_steps (stuck model.of_table played) _ (stuck_listed of_steps model.of_table played tt tt tt) tt in
+    go n.conditions r (rw h.told (listed_or of_steps (too_long run) _ (long_listed of_steps run tt) stuck_is))
+  where
+    go : (conditions : ℕ) (r : Result (List ℕ) Refusal) → T (listed of_steps (ended conditions r)) → T (listed of_steps r)
+    go conditions (Ok held) t = tt
+    go conditions (Err y) t = t
 
 pub write_end_refused : (κs : _) (a : _) (r : _) (x : _) → write_end.Learnt κs a r x → Refusing (16 ∷ []) r a.1.1.0.now x.1.1.0.now
 write_end_refused κs a r x h =

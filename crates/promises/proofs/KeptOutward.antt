@@ -8,14 +8,13 @@ use Prim.Native.Nat.{ℕ}
 use lib.Dec.{T, eqb, eqb_refl}
 use lib.ListN.{length}
 use Rattle.lists.specs.Lists.{mem, same}
-use Rattle.lists.proofs.Bools.{and_right, and_both, or_left, or_right}
-use Rattle.model.specs.Unfolding.{UnfoldedCondition, ordinary, copy, basic}
+use Rattle.lists.proofs.Bools.{and_left, and_right, and_both, or_left, or_right}
+use Rattle.model.specs.Unfolding.{basic}
 use Rattle.model.specs.Across as model
 use Rattle.model.specs.Across.{unfolding_refused}
-use Rattle.refusal.specs.Answer.{By, Judged, number_of, by_of, and_then, written}
-use Rattle.std.specs.Prelude.{None, Some, Ok, Err}
-use Rattle.refusal.specs.declared.Condition.TheVariants.{Table, Unfolded}
+use Rattle.std.specs.Prelude.{None, Some, Result, Ok, Err}
 use Rattle.refusal.specs.declared.Refusal.{Refusal}
+use Rattle.refusal.specs.Answer.{By, Judged, number_of, and_then, written}
 use Rattle.refusal.proofs.Chain.{never_both}
 use Rattle.table.specs.Walk.{judge_of}
 use Rattle.table.specs.Decoded.{net_of}
@@ -30,11 +29,11 @@ use Rattle.writing.specs.Writing.{write_answer, record_into}
 use Rattle.layout.specs.Unfolds.{unfolding_of}
 use Rattle.events.specs.declared.Colour.{Colour}
 use Rattle.event_numbers.specs.Answers as unfolded
-use Rattle.events.specs.Answers.{origin_judged, origin_of}
+use Rattle.events.specs.declared.EventOrigin.{EventOrigin}
+use Rattle.events.specs.Answers.{origin_of, origin_answer}
 use Rattle.conditions.specs.declared.ConditionOrigin.{ConditionOrigin}
-use Rattle.conditions.specs.declared.ConditionOrigin.TheVariants as show
 use Rattle.condition_numbers.specs.Answers.{numbered}
-use Rattle.conditions.specs.Origins.{condition_at, condition_judged, told_if, condition_origin_of, origin_number}
+use Rattle.conditions.specs.Origins.{condition_origin_of}
 use Rattle.elements.specs.Calls.{element_count_of, element_of, element_written_of}
 use Rattle.unfolded_lists.specs.Calls.{unfolded_list_of, unfolded_listed_of}
 use Rattle.starting.specs.Calls.{unfolded_start_of, unfolded_started_of}
@@ -45,14 +44,12 @@ use Rattle.ends.specs.Calls.{lift_end_of, lift_ended_of, unfolded_replay_of, unf
 use Rattle.outward.specs.declared.Answer.{Answer}
 use Rattle.outward.specs.Told.{by_number, answer_of, value_or, given}
 use Rattle.outward.specs.Words.{colour_for, markers_of, markers_into, condition_for}
-use Rattle.outward.specs.Origins.{origin_answer, condition_or, copy_or, marker_or, user_or}
+use Rattle.outward.specs.Origins.{condition_or, copy_or, marker_or, user_or}
 use Rattle.promises.specs.Refused.{of_table, of_list, of_table_start, of_lossy, of_firing, of_replay, of_exchange, of_unfolding, of_numbering, of_listing, of_start, of_unfolded_firing, of_lift, of_project, of_reading, of_writing, by_condition, naming, named, listed, Refusing, Telling}
-use Rattle.promises.proofs.Refused.{listed_need, listed_then, listed_cond, listed_fitting, zero_listed, judge_listed, judged_listed, firing_listed, replay_listed, exchange_listed, preconditions_listed, postconditions_listed, start_listed, lossy_listed, unfolding_of_listed, listing_listed, element_listed, unfolded_start_listed, unfolded_fire_listed, lift_listed, lift_end_listed, project_listed, unfolded_replay_listed, read_listed, write_listed}
-use Rattle.promises.proofs.Told.{event_answer}
-use Rattle.promises.proofs.Kept.{written_refused}
-use Rattle.outward.proofs.put_markers.Reads as put-markers
+use Rattle.promises.proofs.Refused.{listed_need, listed_cond, listed_fitting, listed_more, judge_listed, judged_listed, firing_listed, replay_listed, exchange_listed, preconditions_listed, postconditions_listed, start_listed, lossy_listed, unfolding_of_listed, listing_listed, element_listed, unfolded_start_listed, unfolded_fire_listed, lift_listed, lift_end_listed, project_listed, unfolded_replay_listed, read_listed, write_listed}
+use Rattle.promises.proofs.Kept.{written_refused, event_listed, condition_listed}
+use Rattle.outward.proofs.put_event_origin.Reads as put-event-origin
 use Rattle.outward.proofs.condition_number.Reads as condition_number_lem
-use Rattle.outward.proofs.origin_answer.Reads as origin-answer
 use Rattle.ffi.proofs.dovetrellis_judge.Reads as dovetrellis-judge
 use Rattle.ffi.proofs.dovetrellis_counts.Reads as dovetrellis-counts
 use Rattle.ffi.proofs.dovetrellis_pre.Reads as dovetrellis-pre
@@ -85,31 +82,47 @@ use Rattle.ffi.proofs.dovetrellis_lossy.Reads as dovetrellis-lossy
 
 -- ---- answers as C sees them
 
-told_listed : (numbers : List ℕ) (a : Judged) (r : Answer) → r ≡ answer_of a → T (listed numbers a) → T (mem r.number (0 ∷ numbers))
+told_listed : {A : Type 0} (numbers : List ℕ) (a : Result A Refusal) (r : Answer) → r ≡ answer_of a → T (listed numbers a)
+    → T (mem r.number (0 ∷ numbers))
 unfolding answer_of
-told_listed numbers a r e t = zero_listed numbers a (ap (λ (z : Answer). z.number) e) t
+told_listed numbers (Ok v) r e t =
+    let number : r.number ≡ 0 = ap (λ (z : Answer). z.number) e in
+    subst (λ (k : ℕ). T (mem k (0 ∷ numbers))) (sym number) tt
+told_listed numbers (Err x) r e t =
+    let number : r.number ≡ x.number = ap (λ (z : Answer). z.number) e in
+    let told = or_right (eqb x.number 0) (mem x.number numbers) (and_left (mem x.number numbers) (named x) t) in
+    subst (λ (k : ℕ). T (mem k (0 ∷ numbers))) (sym number) told
 
 -- the condition is 0 where no condition stopped a step
-told_by_lem : (numbers : List ℕ) (a : Judged) (r : Answer) → r ≡ answer_of a → T (listed numbers a) → (T (mem r.number by_condition) → ⊥) → r.by ≡ 0
-unfolding answer_of
-told_by_lem numbers a r e t f =
-    ap (λ (z : Answer). z.by) e ∙ go a t (λ m. f (subst (λ (k : ℕ). T (mem k by_condition)) (sym (ap (λ (z : Answer). z.number) e)) m))
-  where
-    none_named : (b : By) (m : Bool) → T (same m (naming b)) → (T m → ⊥) → by_number b ≡ 0
-    none_named None m t f = refl
-    none_named (Some (Table b)) true t f = absurd (f tt)
-    none_named (Some (Table b)) false t f = absurd t
-    none_named (Some (Unfolded b)) true t f = absurd (f tt)
-    none_named (Some (Unfolded b)) false t f = absurd t
+none_named : (b : By) (m : Bool) → T (same m (naming b)) → (T m → ⊥) → by_number b ≡ 0
+none_named None m t f = refl
+none_named (Some c) true t f = absurd (f tt)
+none_named (Some c) false t f = absurd t
 
-    go : (a : Judged) → T (listed numbers a) → (T (mem (number_of a) by_condition) → ⊥) → by_number (by_of a) ≡ 0
-    go (Ok v) t f = refl
-    go (Err x) t f = none_named x.by (mem x.number by_condition) (and_right (mem x.number numbers) (named x) t) f
-
-told_refused : (numbers : List ℕ) (a : Judged) (r : Answer) {Kept : Type 0} → r ≡ answer_of a → T (listed numbers a) → ((x : Refusal) → a ≡ Err x → Kept) → Telling numbers r Kept
+told_by_lem : {A : Type 0} (numbers : List ℕ) (a : Result A Refusal) (r : Answer) → r ≡ answer_of a → T (listed numbers a)
+    → (T (mem r.number by_condition) → ⊥) → r.by ≡ 0
 unfolding answer_of
-told_refused numbers (Ok v) r e t k = record { number = told_listed numbers (Ok v) r e t; by = told_by_lem numbers (Ok v) r e t; kept = λ f. absurd (f (ap (λ (z : Answer). z.number) e)) }
-told_refused numbers (Err x) r e t k = record { number = told_listed numbers (Err x) r e t; by = told_by_lem numbers (Err x) r e t; kept = λ f. k x refl }
+told_by_lem numbers (Ok v) r e t f = ap (λ (z : Answer). z.by) e
+told_by_lem numbers (Err x) r e t f =
+    let number = sym (ap (λ (z : Answer). z.number) e) in
+    let names = and_right (mem x.number numbers) (named x) t in
+    ap (λ (z : Answer). z.by) e ∙ none_named x.by (mem x.number by_condition) names (λ m. f (subst (λ (k : ℕ). T (mem k by_condition)) number m))
+
+told_refused : {A : Type 0} (numbers : List ℕ) (a : Result A Refusal) (r : Answer) {Kept : Type 0} → r ≡ answer_of a → T (listed numbers a)
+    → ((x : Refusal) → a ≡ Err x → Kept) → Telling numbers r Kept
+unfolding answer_of
+told_refused numbers (Ok v) r e t k =
+    record {
+      number = told_listed numbers (Ok v) r e t;
+      by = told_by_lem numbers (Ok v) r e t;
+      kept = λ f. absurd (f (ap (λ (z : Answer). z.number) e));
+    }
+told_refused {A = A} numbers (Err x) r e t k =
+    record {
+      number = told_listed {A = A} numbers (Err x) r e t;
+      by = told_by_lem {A = A} numbers (Err x) r e t;
+      kept = λ f. k x refl;
+    }
 
 -- ---- what is lent, where the answer is a refusal
 
@@ -143,46 +156,31 @@ unfolded_kept s v w old out f g = go (judge_of s) (unfolding_refused (net_of s))
     go (Ok n) none f g = never_both g
 
 -- what stands behind an unfolded condition
-condition_kept : (o : ConditionOrigin) (old out : ℕ) {x : Refusal} → out ≡ condition_or o old → origin_answer o ≡ Err x → out ≡ old
-condition_kept (show.Ordinary b) old out f g = never_both g
-condition_kept (show.Copy b m u) old out f g = never_both g
-condition_kept (show.Refused y) old out f g = f
+condition_kept : (o : Result ConditionOrigin Refusal) (old out : ℕ) {x : Refusal} → out ≡ condition_or o old → o ≡ Err x → out ≡ old
+condition_kept o old out f g = f ∙ ap (λ (z : Result ConditionOrigin Refusal). condition_or z old) g
 
-copy_kept : (o : ConditionOrigin) (old out : Bool) {x : Refusal} → out ≡ copy_or o old → origin_answer o ≡ Err x → out ≡ old
-copy_kept (show.Ordinary b) old out f g = never_both g
-copy_kept (show.Copy b m u) old out f g = never_both g
-copy_kept (show.Refused y) old out f g = f
+copy_kept : (o : Result ConditionOrigin Refusal) (old out : Bool) {x : Refusal} → out ≡ copy_or o old → o ≡ Err x → out ≡ old
+copy_kept o old out f g = f ∙ ap (λ (z : Result ConditionOrigin Refusal). copy_or z old) g
 
-marker_kept : (o : ConditionOrigin) (old out : ℕ) {x : Refusal} → out ≡ marker_or o old → origin_answer o ≡ Err x → out ≡ old
-marker_kept (show.Ordinary b) old out f g = f
-marker_kept (show.Copy b m u) old out f g = never_both g
-marker_kept (show.Refused y) old out f g = f
+marker_kept : (o : Result ConditionOrigin Refusal) (old out : ℕ) {x : Refusal} → out ≡ marker_or o old → o ≡ Err x → out ≡ old
+marker_kept o old out f g = f ∙ ap (λ (z : Result ConditionOrigin Refusal). marker_or z old) g
 
-user_kept : (o : ConditionOrigin) (old out : ℕ) {x : Refusal} → out ≡ user_or o old → origin_answer o ≡ Err x → out ≡ old
-user_kept (show.Ordinary b) old out f g = f
-user_kept (show.Copy b m u) old out f g = never_both g
-user_kept (show.Refused y) old out f g = f
+user_kept : (o : Result ConditionOrigin Refusal) (old out : ℕ) {x : Refusal} → out ≡ user_or o old → o ≡ Err x → out ≡ old
+user_kept o old out f g = f ∙ ap (λ (z : Result ConditionOrigin Refusal). user_or z old) g
 
 -- ---- numbers that only these calls put together
 
 markers_listed : (s : List ℕ) (j room : ℕ) → T (listed of_listing (markers_of (origin_of s j) room))
-unfolding markers_of origin_judged
-markers_listed s j room =
-    listed_then of_listing (origin_of s j).answer _
-    (rw (event_answer s j) (unfolding_of_listed of_listing s _ tt (listed_need of_listing _ 10 0 _ tt tt))) (λ v. listed_fitting of_listing (origin_of s j).colour.count room tt)
+unfolding markers_of
+markers_listed s j room = go (origin_of s j) (listed_more of_numbering of_listing (origin_of s j) tt (event_listed s j))
+  where
+    go : (o : Result EventOrigin Refusal) → T (listed of_listing o) → T (listed of_listing (markers_of o room))
+    go (Ok origin) t = listed_fitting of_listing origin.colour.count room tt
+    go (Err x) t = t
 
 number_listed : (s : List ℕ) (e : ℕ) (c : Colour) → T (listed of_numbering (unfolded.number_of s e c))
 unfolding unfolded.number_of
 number_listed s e c = unfolding_of_listed of_numbering s _ tt (listed_need of_numbering _ 10 0 _ tt tt)
-
-origin_listed : (s : List ℕ) (i : ℕ) → T (listed of_numbering (origin_answer (condition_origin_of s i)))
-unfolding condition_origin_of condition_judged
-origin_listed s i = go (condition_judged s i) (condition_at (net_of s) i) (unfolding_of_listed of_numbering s _ tt (listed_need of_numbering _ 10 0 _ tt tt))
-  where
-    go : (a : Judged) (p : UnfoldedCondition) → T (listed of_numbering a) → T (listed of_numbering (origin_answer (told_if a p)))
-    go (Ok k) (ordinary b) t = tt
-    go (Ok k) (copy b m u) t = tt
-    go (Err x) p t = t
 
 condition_for_listed : (s : List ℕ) (b : ℕ) (copied : Bool) (m u : ℕ) → T (listed of_numbering (condition_for s b copied m u))
 unfolding condition_for numbered
@@ -192,32 +190,27 @@ condition_for_listed s b copied m u =
 -- ---- what turns answers
 
 -- an answer that names a condition as the calls do is refused with its own number
-own_refused : (l : List ℕ) (x : Refusal) → T (named x) → T (listed (x.number ∷ l) (Err x))
+own_refused : (l : List ℕ) (x : Refusal) → T (named x) → T (listed {A = ℕ} (x.number ∷ l) (Err x))
 own_refused l x n =
     and_both (mem x.number (x.number ∷ l)) (named x) (or_left (eqb x.number x.number) (mem x.number l) (eqb_refl x.number)) n
 
-own_listed : (l : List ℕ) (a : Judged) → ((y : Refusal) → a ≡ Err y → T (named y)) → T (listed (number_of a ∷ l) a)
-own_listed l (Ok v) n = tt
-own_listed l (Err x) n = own_refused l x (n x refl)
-
-pub put_markers_refused : (κs : _) (a : _) (r : _) (x : _) → put-markers.Learnt κs a r x → ((y : Refusal) → a.0.answer ≡ Err y → T (named y))
-    → Refusing (number_of a.0.answer ∷ 16 ∷ []) r a.1.0.now x.1.0.now
+pub put_event_origin_refused : (κs : _) (a : _) (r : _) (x : _) → put-event-origin.Learnt κs a r x → ((y : Refusal) → a.0 ≡ Err y → T (named y))
+    → Refusing (number_of (origin_answer a.0) ∷ 16 ∷ []) r a.1.0.now x.1.0.now
+    × ((y : Refusal) → r ≡ Err y → (x.1.1.0.now ≡ a.1.1.0.now) × (x.1.1.1.0.now ≡ a.1.1.1.0.now))
 unfolding markers_of markers_into
-put_markers_refused κs a r x h n =
-    written_refused (number_of a.0.answer ∷ 16 ∷ []) r (markers_of a.0 (length a.1.0.now)) _ a.1.0.now x.1.0.now h.0
-    (listed_then (number_of a.0.answer ∷ 16 ∷ []) a.0.answer _ (own_listed (16 ∷ []) a.0.answer n) (λ v. listed_fitting (number_of a.0.answer ∷ 16 ∷ []) _ _ (or_right (eqb 16 (number_of a.0.answer)) true tt)))
-    h.1
+put_event_origin_refused κs a r x h n =
+    let numbers = number_of (origin_answer a.0) ∷ 16 ∷ [] in (
+      written_refused numbers r (markers_of a.0 (length a.1.0.now)) _ a.1.0.now x.1.0.now h.0 (go a.0 n) h.1.0,
+      λ y g. (given_kept r _ a.1.1.0.now x.1.1.0.now h.1.1.0 g, value_kept r a.1.1.1.0.now x.1.1.1.0.now h.1.1.1 g),
+    )
+  where
+    go : (o : Result EventOrigin Refusal) → ((y : Refusal) → o ≡ Err y → T (named y))
+        → T (listed (number_of (origin_answer o) ∷ 16 ∷ []) (markers_of o (length a.1.0.now)))
+    go (Ok origin) n = listed_fitting (0 ∷ 16 ∷ []) origin.colour.count (length a.1.0.now) tt
+    go (Err y) n = own_refused (16 ∷ []) y (n y refl)
 
 pub condition_number_refused : (κs : _) (a : _) (r : _) (x : _) → condition_number_lem.Learnt κs a r x → T (listed of_numbering r)
 condition_number_refused κs a r x h = rw h (condition_for_listed a.0.now a.1.0.0 a.1.1.0 a.1.1.1.0 a.1.1.1.1.0.0)
-
-pub origin_answer_refused : (κs : _) (a : _) (r : _) (x : _) → origin-answer.Learnt κs a r x → ((y : Refusal) → a.0 ≡ show.Refused y → T (named y)) → T (listed (origin_number a.0 ∷ []) r)
-origin_answer_refused κs a r x h n = rw h (go a.0 n)
-  where
-    go : (o : ConditionOrigin) → ((y : Refusal) → o ≡ show.Refused y → T (named y)) → T (listed (origin_number o ∷ []) (origin_answer o))
-    go (show.Ordinary b) n = tt
-    go (show.Copy b m u) n = tt
-    go (show.Refused y) n = own_refused [] y (n y refl)
 
 -- ---- the exports
 
@@ -276,7 +269,14 @@ dovetrellis_event_number_refused κs a r x h =
 
 pub dovetrellis_condition_origin_refused : (κs : _) (a : _) (r : _) (x : _) → dovetrellis-condition-origin.Learnt κs a r x → Telling of_numbering r ((x.1.1.0.now ≡ a.1.1.0.now) × (x.1.1.1.0.now ≡ a.1.1.1.0.now) × (x.1.1.1.1.0.now ≡ a.1.1.1.1.0.now) × (x.1.1.1.1.1.0.now ≡ a.1.1.1.1.1.0.now))
 dovetrellis_condition_origin_refused κs a r x h =
-    told_refused of_numbering (origin_answer (condition_origin_of a.0.now a.1.0)) r h.0 (origin_listed a.0.now a.1.0) (λ y g. (condition_kept (condition_origin_of a.0.now a.1.0) a.1.1.0.now x.1.1.0.now h.1.0 g, copy_kept (condition_origin_of a.0.now a.1.0) a.1.1.1.0.now x.1.1.1.0.now h.1.1.0 g, marker_kept (condition_origin_of a.0.now a.1.0) a.1.1.1.1.0.now x.1.1.1.1.0.now h.1.1.1.0 g, user_kept (condition_origin_of a.0.now a.1.0) a.1.1.1.1.1.0.now x.1.1.1.1.1.0.now h.1.1.1.1 g))
+    let o = condition_origin_of a.0.now a.1.0 in
+    told_refused of_numbering o r h.0 (condition_listed a.0.now a.1.0)
+    (λ y g. (
+      condition_kept o a.1.1.0.now x.1.1.0.now h.1.0 g,
+      copy_kept o a.1.1.1.0.now x.1.1.1.0.now h.1.1.0 g,
+      marker_kept o a.1.1.1.1.0.now x.1.1.1.1.0.now h.1.1.1.0 g,
+      user_kept o a.1.1.1.1.1.0.now x.1.1.1.1.1.0.now h.1.1.1.1 g,
+    ))
 
 pub dovetrellis_condition_number_refused : (κs : _) (a : _) (r : _) (x : _) → dovetrellis-condition-number.Learnt κs a r x → Telling of_numbering r (x.1.1.1.1.1.0.now ≡ a.1.1.1.1.1.0.now)
 dovetrellis_condition_number_refused κs a r x h =

@@ -10,6 +10,7 @@ use Rattle.runs.specs.Runs.{run_of}
 use Rattle.listing.specs.Calls.{text_of}
 use Rattle.refusal.proofs.refused.Reads as refused
 use Rattle.refusal.proofs.refused_by.Reads as refused-by
+use Rattle.refusal.proofs.Condition.number.Reads as condition_number_lem
 use Rattle.refusal.proofs.number_of.Reads as number_of_lem
 use Rattle.refusal.proofs.place_of.Reads as place_of
 use Rattle.refusal.proofs.by_of.Reads as by-of
@@ -73,11 +74,14 @@ same_late r q new old after past e f g = (e, f ∙ ap (λ (z : Judged). written 
 
 -- ---- answers
 
-pub refused_one : (κs : _) (a : _) (r q : _) (x y : _) → refused.Learnt κs a r x → refused.Learnt κs a q y → r ≡ q
-refused_one κs a r q x y h g = h ∙ sym g
+pub refused_one : (g d κs a : _) (r q : _) (x y : _) → refused.Learnt g d κs a r x → refused.Learnt g d κs a q y → r ≡ q
+refused_one g d κs a r q x y h e = h ∙ sym e
 
-pub refused_by_one : (κs : _) (a : _) (r q : _) (x y : _) → refused-by.Learnt κs a r x → refused-by.Learnt κs a q y → r ≡ q
-refused_by_one κs a r q x y h g = h ∙ sym g
+pub refused_by_one : (g d κs a : _) (r q : _) (x y : _) → refused-by.Learnt g d κs a r x → refused-by.Learnt g d κs a q y → r ≡ q
+refused_by_one g d κs a r q x y h e = h ∙ sym e
+
+pub condition_own_number_one : (κs : _) (a : _) (r q : _) (x y : _) → condition_number_lem.Learnt κs a r x → condition_number_lem.Learnt κs a q y → r ≡ q
+condition_own_number_one κs a r q x y h g = h ∙ sym g
 
 pub number_of_one : (κs : _) (a : _) (r q : _) (x y : _) → number_of_lem.Learnt κs a r x → number_of_lem.Learnt κs a q y → r ≡ q
 number_of_one κs a r q x y h g = h ∙ sym g

@@ -10,7 +10,8 @@ use native.Mathlib.Decide.{dec_le}
 use lib.Dec.{eqb}
 use lib.ListN.{length, get_or}
 use Rattle.lists.specs.Lists.{sum}
-use Rattle.model.specs.Net.{Net, Marking}
+use mathlib.Core.Option.{Option, none, some}
+use Rattle.model.specs.Net.{Net, Marking, Stop}
 use Rattle.model.specs.Lent.{bytes}
 use Rattle.model.specs.Numbering.{size, width, event_count}
 use Rattle.held.specs.Held.{bit_of, held_in}
@@ -20,8 +21,10 @@ use Rattle.table.specs.Walk.{offset_of}
 use Rattle.table.specs.Decoded.{net_of}
 use Rattle.tally.specs.Having.{Tally}
 use Rattle.layout.proofs.Counts.{sum_part}
-use Rattle.std.specs.Prelude.{Option as Perhaps, None, Some}
+use Rattle.std.specs.Prelude.{Option as Perhaps, None, Some, Result, Ok, Err}
 use Rattle.unfolding.specs.declared.Coloured.{Coloured}
+use Rattle.stopping.specs.Table.{Cause}
+use Rattle.step.specs.Tests.{Moves}
 use Rattle.unfolding.specs.Numbers.{Owner, Belongs}
 use Rattle.pnml.specs.Text.{text_of}
 use Rattle.promises.proofs.One.{same_part}
@@ -60,10 +63,8 @@ use Rattle.step.proofs.move_at.Reads as move_at
 use Rattle.step.proofs.set_all.Reads as set_all
 use Rattle.step.proofs.test_at.Reads as test_at
 use Rattle.step.proofs.step_at.Reads as step_at
-use Rattle.step.proofs.stopped_at.Reads as stopped-at
-use Rattle.step.proofs.answered.Reads as answered
-use Rattle.unfolded_step.proofs.stopped_at.Reads as unfolded-stopped-at
-use Rattle.unfolded_step.proofs.answered.Reads as unfolded-answered
+use Rattle.stopping.proofs.Cause.at.Reads as cause-at
+use Rattle.stopping.proofs.RefusalFromCause.from.Reads as refusal-from
 use Rattle.game.proofs.judge_lent.Reads as judge-lent
 use Rattle.played.proofs.start.Reads as played-start
 use Rattle.played.proofs.step_event.Reads as step_event
@@ -90,7 +91,6 @@ use Rattle.unfolding.proofs.colours_before.Reads as colours-before
 use Rattle.copies.proofs.write_copies.Reads as write-copies
 use Rattle.decided.proofs.decide.Reads as decide
 use Rattle.located.proofs.locate.Reads as locate
-use Rattle.segments.proofs.own.Reads as own
 use Rattle.segments.proofs.choose.Reads as choose
 use Rattle.segments.proofs.alone.Reads as alone
 use Rattle.segments.proofs.joined.Reads as joined
@@ -135,22 +135,47 @@ same_owned f c i b d h g = go (dec_le b d) (dec_le d b)
     go (no l) k = absurd (apart d b g h (omega arith))
     go (yes l) (no k) = absurd (apart b d h g (omega arith))
 
+same_coloured : (p q : Coloured) → p.event ≡ q.event → p.at ≡ q.at → p.weight ≡ q.weight → p.rest ≡ q.rest → p ≡ q
+same_coloured p q a b c d =
+    let whole : Coloured → Coloured = λ o. record { event = o.event; at = o.at; weight = o.weight; rest = o.rest } in
+    let same : whole p ≡ whole q = rw (a, b, c, d) in
+    same
+
 same_owner : (s : List ℕ) (j : ℕ) (r q : Perhaps Coloured) → Belongs s j r → Belongs s j q → r ≡ q
 unfolding event_count
 same_owner s j None None h g = refl
-same_owner s j (Some e at rest weight) None h g = absurd (omega (arith, sum_part (size (net_of s)) (net_of s).events e h.event, h.left, h.whole, h.below, g))
-same_owner s j None (Some e at rest weight) h g = absurd (omega (arith, sum_part (size (net_of s)) (net_of s).events e g.event, g.left, g.whole, g.below, h))
-same_owner s j (Some e at rest weight) (Some d by left wide) h g =
-    let z : e ≡ d = go (dec_le e d) (dec_le d e) (never_later s j e at rest weight d by left wide h g) (never_later s j d by left wide e at rest weight g h) in
-    let place : at ≡ by = h.offset ∙ ap (offset_of s) z ∙ sym g.offset in
-    let whole : weight ≡ wide = h.whole ∙ ap (size (net_of s)) z ∙ sym g.whole in
-    let over : rest ≡ left = omega (arith, h.left, g.left, ap (sum (size (net_of s))) z) in
-    rw (z, place, over, whole)
+same_owner s j (Some p) None h g =
+    absurd (omega (arith, sum_part (size (net_of s)) (net_of s).events p.event h.event, h.left, h.whole, h.below, g))
+same_owner s j None (Some q) h g =
+    absurd (omega (arith, sum_part (size (net_of s)) (net_of s).events q.event g.event, g.left, g.whole, g.below, h))
+same_owner s j (Some p) (Some q) h g =
+    let early = never_later s j p.event p.at p.rest p.weight q.event q.at q.rest q.weight h g in
+    let late = never_later s j q.event q.at q.rest q.weight p.event p.at p.rest p.weight g h in
+    let z : p.event ≡ q.event = go (dec_le p.event q.event) (dec_le q.event p.event) early late in
+    let place : p.at ≡ q.at = h.offset ∙ ap (offset_of s) z ∙ sym g.offset in
+    let whole : p.weight ≡ q.weight = h.whole ∙ ap (size (net_of s)) z ∙ sym g.whole in
+    let over : p.rest ≡ q.rest = omega (arith, h.left, g.left, ap (sum (size (net_of s))) z) in
+    ap {B = Perhaps Coloured} (λ (own : Coloured). Some own) (same_coloured p q z place whole over)
   where
     go : {e d : ℕ} → Dec (e ≤ d) → Dec (d ≤ e) → (e < d → ⊥) → (d < e → ⊥) → e ≡ d
     go (yes a) (yes b) f g = omega arith
     go (yes a) (no b) f g = absurd (f (omega arith))
     go (no a) c f g = absurd (g (omega arith))
+
+-- two moves that tell the same marking, or the same cause
+abbrev Alike : Result (List ℕ) Cause → Result (List ℕ) Cause → Type 0
+Alike (Ok held) (Ok other) = held_in held ≡ held_in other
+Alike (Ok held) (Err cause) = ⊥
+Alike (Err cause) (Ok held) = ⊥
+Alike (Err cause) (Err other) = cause ≡ other
+
+same_moved : (o : Option Stop) (new : Marking) (r q : Result (List ℕ) Cause) → Moves o new r → Moves o new q → Alike r q
+same_moved none new (Ok held) (Ok other) h g = h ∙ sym g
+same_moved none new (Ok held) (Err cause) h g = g
+same_moved none new (Err cause) q h g = absurd h
+same_moved (some v) new (Ok held) q h g = absurd h
+same_moved (some v) new (Err cause) (Ok held) h g = g
+same_moved (some v) new (Err cause) (Err other) h g = h ∙ sym g
 
 -- ---- bytes and numbers
 
@@ -281,8 +306,8 @@ spread_one κs a r q x y h g = h ∙ sym g
 pub kept_one : (κs : _) (a : _) (r q : _) (x y : _) → kept.Learnt κs a r x → kept.Learnt κs a q y → held_in r ≡ held_in q
 kept_one κs a r q x y h g = h ∙ sym g
 
-pub move_at_one : (κs : _) (a : _) (r q : _) (x y : _) → move_at.Learnt κs a r x → move_at.Learnt κs a q y → (r.step ≡ q.step) × (held_in r.held ≡ held_in q.held)
-move_at_one κs a r q x y h g = (h.0 ∙ sym g.0, h.1 ∙ sym g.1)
+pub move_at_one : (κs : _) (a : _) (r q : _) (x y : _) → move_at.Learnt κs a r x → move_at.Learnt κs a q y → Alike r q
+move_at_one κs a r q x y h g = same_moved _ _ r q h g
 
 pub first_above_one : (κs : _) (a : _) (r q : _) (x y : _) → first_above.Learnt κs a r x → first_above.Learnt κs a q y → r ≡ q
 first_above_one κs a r q x y h g = h ∙ sym g
@@ -296,17 +321,11 @@ test_at_one κs a r q x y h g = h ∙ sym g
 pub step_at_one : (κs : _) (a : _) (r q : _) (x y : _) → step_at.Learnt κs a r x → step_at.Learnt κs a q y → (r ≡ q) × (x.1.1.0.now ≡ y.1.1.0.now)
 step_at_one κs a r q x y h g = (h.0 ∙ sym g.0, h.1 ∙ sym g.1)
 
-pub stopped_at_one : (κs : _) (a : _) (r q : _) (x y : _) → stopped-at.Learnt κs a r x → stopped-at.Learnt κs a q y → r ≡ q
-stopped_at_one κs a r q x y h g = h ∙ sym g
+pub at_one : (g n c d k i j κs a : _) (r q : _) (x y : _) → cause-at.Learnt g n c d k i j κs a r x → cause-at.Learnt g n c d k i j κs a q y → r ≡ q
+at_one g n c d k i j κs a r q x y h e = h ∙ sym e
 
-pub answered_one : (κs : _) (a : _) (r q : _) (x y : _) → answered.Learnt κs a r x → answered.Learnt κs a q y → r ≡ q
-answered_one κs a r q x y h g = h ∙ sym g
-
-pub unfolded_stopped_at_one : (κs : _) (a : _) (r q : _) (x y : _) → unfolded-stopped-at.Learnt κs a r x → unfolded-stopped-at.Learnt κs a q y → r ≡ q
-unfolded_stopped_at_one κs a r q x y h g = h ∙ sym g
-
-pub unfolded_answered_one : (κs : _) (a : _) (r q : _) (x y : _) → unfolded-answered.Learnt κs a r x → unfolded-answered.Learnt κs a q y → r ≡ q
-unfolded_answered_one κs a r q x y h g = h ∙ sym g
+pub from_one : (g n c d k i j κs a : _) (r q : _) (x y : _) → refusal-from.Learnt g n c d k i j κs a r x → refusal-from.Learnt g n c d k i j κs a q y → r ≡ q
+from_one g n c d k i j κs a r q x y h e = h ∙ sym e
 
 pub judge_lent_one : (κs : _) (a : _) (r q : _) (x y : _) → judge-lent.Learnt κs a r x → judge-lent.Learnt κs a q y → r ≡ q
 judge_lent_one κs a r q x y h g = h ∙ sym g
@@ -390,9 +409,6 @@ decide_one κs a r q x y h g = h ∙ sym g
 
 pub locate_one : (κs : _) (a : _) (r q : _) (x y : _) → locate.Learnt κs a r x → locate.Learnt κs a q y → r ≡ q
 locate_one κs a r q x y h g = h ∙ sym g
-
-pub own_one_lem : (κs : _) (a : _) (r q : _) (x y : _) → own.Learnt κs a r x → own.Learnt κs a q y → r ≡ q
-own_one_lem κs a r q x y h g = h ∙ sym g
 
 pub choose_one : (κs : _) (a : _) (r q : _) (x y : _) → choose.Learnt κs a r x → choose.Learnt κs a q y → x.1.1.1.1.1.0.now ≡ y.1.1.1.1.1.0.now
 choose_one κs a r q x y h g = h ∙ sym g

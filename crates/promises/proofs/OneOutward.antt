@@ -1,20 +1,18 @@
 -- One answer only, for what C calls: two answers that both meet the contract are equal, and so is what each pointer leads to, which
 -- stands here as the memory at exit.
-use mathlib.Core.Path.{◌≡◌, sym, ◌∙◌}
+use mathlib.Core.Path.{◌≡◌, sym, ap, ◌∙◌}
+use Rattle.refusal.specs.Answer.{Judged}
+use Rattle.events.specs.Answers.{origin_event}
+use Rattle.outward.specs.Told.{value_or, given}
 use Rattle.outward.proofs.told.Reads as told
 use Rattle.outward.proofs.put_value.Reads as put-value
 use Rattle.outward.proofs.put_number.Reads as put-number
-use Rattle.outward.proofs.put_event.Reads as put-event
 use Rattle.outward.proofs.marker_of.Reads as marker_of_lem
 use Rattle.outward.proofs.word_of.Reads as word_of
 use Rattle.outward.proofs.colour_of.Reads as colour-of
-use Rattle.outward.proofs.put_markers.Reads as put-markers
+use Rattle.outward.proofs.put_event_origin.Reads as put-event-origin
 use Rattle.outward.proofs.condition_number.Reads as condition_number_lem
-use Rattle.outward.proofs.origin_answer.Reads as origin-answer
-use Rattle.outward.proofs.put_condition.Reads as put-condition
-use Rattle.outward.proofs.put_copy.Reads as put_copy
-use Rattle.outward.proofs.put_marker.Reads as put-marker
-use Rattle.outward.proofs.put_user.Reads as put-user
+use Rattle.outward.proofs.put_condition_origin.Reads as put-condition-origin
 use Rattle.ffi.proofs.dovetrellis_judge.Reads as dovetrellis-judge
 use Rattle.ffi.proofs.dovetrellis_counts.Reads as dovetrellis-counts
 use Rattle.ffi.proofs.dovetrellis_pre.Reads as dovetrellis-pre
@@ -47,17 +45,14 @@ use Rattle.ffi.proofs.dovetrellis_lossy.Reads as dovetrellis-lossy
 
 -- ---- answers, values and markers as C sees them
 
-pub told_one : (κs : _) (a : _) (r q : _) (x y : _) → told.Learnt κs a r x → told.Learnt κs a q y → r ≡ q
-told_one κs a r q x y h g = h ∙ sym g
+pub told_one : (g c d k i κs a : _) (r q : _) (x y : _) → told.Learnt g c d k i κs a r x → told.Learnt g c d k i κs a q y → r ≡ q
+told_one g c d k i κs a r q x y h e = h ∙ sym e
 
 pub put_value_one : (κs : _) (a : _) (r q : _) (x y : _) → put-value.Learnt κs a r x → put-value.Learnt κs a q y → x.1.0.now ≡ y.1.0.now
 put_value_one κs a r q x y h g = h ∙ sym g
 
 pub put_number_one : (κs : _) (a : _) (r q : _) (x y : _) → put-number.Learnt κs a r x → put-number.Learnt κs a q y → x.1.0.now ≡ y.1.0.now
 put_number_one κs a r q x y h g = h ∙ sym g
-
-pub put_event_one : (κs : _) (a : _) (r q : _) (x y : _) → put-event.Learnt κs a r x → put-event.Learnt κs a q y → x.1.1.0.now ≡ y.1.1.0.now
-put_event_one κs a r q x y h g = h ∙ sym g
 
 pub marker_of_one : (κs : _) (a : _) (r q : _) (x y : _) → marker_of_lem.Learnt κs a r x → marker_of_lem.Learnt κs a q y → r ≡ q
 marker_of_one κs a r q x y h g = h ∙ sym g
@@ -68,26 +63,20 @@ word_of_one κs a r q x y h g = h ∙ sym g
 pub colour_of_one : (κs : _) (a : _) (r q : _) (x y : _) → colour-of.Learnt κs a r x → colour-of.Learnt κs a q y → r ≡ q
 colour_of_one κs a r q x y h g = h ∙ sym g
 
-pub put_markers_one : (κs : _) (a : _) (r q : _) (x y : _) → put-markers.Learnt κs a r x → put-markers.Learnt κs a q y → (r ≡ q) × (x.1.0.now ≡ y.1.0.now)
-put_markers_one κs a r q x y h g = (h.0 ∙ sym g.0, h.1 ∙ sym g.1)
+pub put_event_origin_one : (κs : _) (a : _) (r q : _) (x y : _) → put-event-origin.Learnt κs a r x → put-event-origin.Learnt κs a q y
+    → (r ≡ q) × (x.1.0.now ≡ y.1.0.now) × (x.1.1.0.now ≡ y.1.1.0.now) × (x.1.1.1.0.now ≡ y.1.1.1.0.now)
+put_event_origin_one κs a r q x y h g =
+    let e : r ≡ q = h.0 ∙ sym g.0 in
+    let event = ap (λ (z : Judged). given z (origin_event a.0) a.1.1.0.now) e in
+    let count = ap (λ (z : Judged). value_or z a.1.1.1.0.now) e in
+    (e, h.1.0 ∙ sym g.1.0, h.1.1.0 ∙ event ∙ sym g.1.1.0, h.1.1.1 ∙ count ∙ sym g.1.1.1)
 
 pub condition_number_one : (κs : _) (a : _) (r q : _) (x y : _) → condition_number_lem.Learnt κs a r x → condition_number_lem.Learnt κs a q y → r ≡ q
 condition_number_one κs a r q x y h g = h ∙ sym g
 
-pub origin_answer_one : (κs : _) (a : _) (r q : _) (x y : _) → origin-answer.Learnt κs a r x → origin-answer.Learnt κs a q y → r ≡ q
-origin_answer_one κs a r q x y h g = h ∙ sym g
-
-pub put_condition_one : (κs : _) (a : _) (r q : _) (x y : _) → put-condition.Learnt κs a r x → put-condition.Learnt κs a q y → x.1.0.now ≡ y.1.0.now
-put_condition_one κs a r q x y h g = h ∙ sym g
-
-pub put_copy_one : (κs : _) (a : _) (r q : _) (x y : _) → put_copy.Learnt κs a r x → put_copy.Learnt κs a q y → x.1.0.now ≡ y.1.0.now
-put_copy_one κs a r q x y h g = h ∙ sym g
-
-pub put_marker_one : (κs : _) (a : _) (r q : _) (x y : _) → put-marker.Learnt κs a r x → put-marker.Learnt κs a q y → x.1.0.now ≡ y.1.0.now
-put_marker_one κs a r q x y h g = h ∙ sym g
-
-pub put_user_one : (κs : _) (a : _) (r q : _) (x y : _) → put-user.Learnt κs a r x → put-user.Learnt κs a q y → x.1.0.now ≡ y.1.0.now
-put_user_one κs a r q x y h g = h ∙ sym g
+pub put_condition_origin_one : (κs : _) (a : _) (r q : _) (x y : _) → put-condition-origin.Learnt κs a r x → put-condition-origin.Learnt κs a q y
+    → (x.1.0.now ≡ y.1.0.now) × (x.1.1.0.now ≡ y.1.1.0.now) × (x.1.1.1.0.now ≡ y.1.1.1.0.now) × (x.1.1.1.1.0.now ≡ y.1.1.1.1.0.now)
+put_condition_origin_one κs a r q x y h g = (h.0 ∙ sym g.0, h.1.0 ∙ sym g.1.0, h.1.1.0 ∙ sym g.1.1.0, h.1.1.1 ∙ sym g.1.1.1)
 
 -- ---- the exports
 

@@ -23,10 +23,12 @@ use Rattle.model.proofs.Numbers.{number_at}
 use Rattle.model.proofs.Counts.{condition_back}
 use Rattle.model.proofs.Unfolded.{origin_in}
 use Rattle.model.proofs.Lent.{length_bytes, begun_marking}
-use Rattle.model.proofs.Sets.{conditions_paper, colours_paper, colours_all, colours_one, pre_paper, post_paper, start_paper, lists_ascend, Names, named_one, basic_sound}
-use Rattle.refusal.specs.Answer.{Judged, need, fitting, written}
-use Rattle.std.specs.Prelude.{Ok, Err}
-use Rattle.refusal.proofs.Chain.{need_passes, need_fine, fitting_fine, written_front}
+use Rattle.model.proofs.Sets.{conditions_paper, colours_paper, colours_all, colours_one, pre_paper}
+use Rattle.model.proofs.Sets.{post_paper, start_paper, lists_ascend, Names, named_one, basic_sound}
+use Rattle.refusal.specs.Answer.{Judged, need, fitting}
+use Rattle.std.specs.Prelude.{Result, Ok}
+use Rattle.refusal.specs.declared.Refusal.{Refusal}
+use Rattle.refusal.proofs.Chain.{ok_is, need_passes, need_fine, fitting_fine, written_front}
 use Rattle.table.specs.Decoded.{net_of}
 use Rattle.table.specs.Tabled.{Tabled}
 use Rattle.table.proofs.Sound.{tabled}
@@ -37,16 +39,18 @@ use Rattle.conditions.specs.Origins.{condition_at, condition_judged, told, told_
 use Rattle.events.specs.declared.Colour.{Colour}
 use Rattle.events.specs.declared.EventOrigin.{EventOrigin}
 use Rattle.events.specs.Colours.{colour_of}
-use Rattle.events.specs.Answers.{origin_if, origin_judged, origin_of}
+use Rattle.events.specs.Answers.{origin_if, origin_judged, origin_of, origin_answer, origin_event, origin_colour}
 use Rattle.event_numbers.specs.Answers.{number_of}
 use Rattle.unfolded_lists.specs.Calls.{unfolded_list_of, unfolded_listed_of}
 use Rattle.starting.specs.Calls.{unfolded_start_of, unfolded_started_of}
-use Rattle.inverse.proofs.Prefix.{prefix_passed, fine_same}
+use Rattle.inverse.proofs.Prefix.{prefix_passed}
 use Rattle.inverse.proofs.Conditions.{value_told, origin_numbered, numbered_origin}
 use Rattle.inverse.proofs.Colours.{colour_told}
 use Rattle.inverse.proofs.Numbers.{number_origin, origin_number_lem}
 use Rattle.inverse.proofs.Events.{few_markers, event_back, event_forth}
-use Rattle.promises.specs.Paper.{condition_count_of, event_count_of, StandsAt, standing, ConditionsNumbered, event_at, colour_at, ToldAt, EventsNumbered, side', Listed, Started}
+use Rattle.promises.specs.Paper.{condition_count_of, event_count_of, StandsAt, standing, ConditionsNumbered, event_at}
+use Rattle.promises.proofs.Told.{event_answer}
+use Rattle.promises.specs.Paper.{colour_at, ToldAt, EventsNumbered, side', Listed, Started}
 
 -- ---- sets that have the same members
 
@@ -64,10 +68,6 @@ same_choice n e c d is h =
         from = λ b k x. f.from b k ((is b k).1 x);
       },
     )
-
-answer_is : (a : Judged) (x : UnfoldedEvent) → (origin_if a x).answer ≡ a
-answer_is (Ok k) x = refl
-answer_is (Err r) x = refl
 
 -- ---- a table that unfolds
 
@@ -100,7 +100,7 @@ module _ (s : List ℕ) (u : (own : Judged) → unfolding_of s own ≡ own) wher
       let low = lt-ltb i (length (unfolded_conditions (net_of s))) (at_lt (unfolded_conditions (net_of s)) i h) in
       let fine : condition_judged s i ≡ Ok i = u (need (ltb i (basic (net_of s)).conditions) 10 0 (Ok i)) ∙ need_passes 10 0 low in
       ap (λ (x : Judged). origin_value (told_if x (condition_at (net_of s) i))) fine
-      ∙ ap (λ (x : UnfoldedCondition). origin_value (told x)) (at_get_d (unfolded_conditions (net_of s)) i (ordinary 0) h)
+      ∙ ap (λ (x : UnfoldedCondition). origin_value (Ok (told x))) (at_get_d (unfolded_conditions (net_of s)) i (ordinary 0) h)
       ∙ value_told p
 
   -- a set of numbers names what stands at them
@@ -116,7 +116,10 @@ module _ (s : List ℕ) (u : (own : Judged) → unfolding_of s own ≡ own) wher
         within = λ i p h. let a = stands_at i p h in (at_lt all i a, (conditions_paper (net_of s) p).0 (in_at all i a));
         all = λ p b. let a = place_of ((conditions_paper (net_of s) p).1 b) in (a.0, at_stands a.0 p a.1);
         one = λ i k p h g. sym (condition_back (net_of s) i p (stands_at i p h)) ∙ condition_back (net_of s) k p (stands_at k p g);
-        ordinary_number_lem = λ b i. (λ e. ap origin_value (numbered_origin s (ordinary b) i e) ∙ value_told (ordinary b), λ v. origin_numbered s i (ordinary b) v);
+        ordinary_number_lem = λ b i. (
+          λ e. ap origin_value (numbered_origin s (ordinary b) i e) ∙ value_told (ordinary b),
+          λ v. origin_numbered s i (ordinary b) v,
+        );
         copy_number_lem = λ b m v i. (
           λ e. ap origin_value (numbered_origin s _ i e) ∙ value_told _,
           λ h. origin_numbered s i _ h,
@@ -137,11 +140,11 @@ module _ (s : List ℕ) (u : (own : Judged) → unfolding_of s own ≡ own) wher
         (u (need (ltb j (basic (net_of s)).events) 10 0 (Ok (length (origin (net_of s) j).colour))) ∙ need_passes 10 0 low)
 
     told_event : event_at s j ≡ (origin (net_of s) j).event
-    told_event = ap (λ (x : EventOrigin). x.event.0) told_whole
+    told_event = ap origin_event told_whole
 
-    told_colour : colour_of (origin_of s j).colour ≡ (origin (net_of s) j).colour
+    told_colour : colour_of (origin_colour (origin_of s j)) ≡ (origin (net_of s) j).colour
     told_colour =
-        ap (λ (x : EventOrigin). colour_of x.colour) told_whole
+        ap (λ (x : Result EventOrigin Refusal). colour_of (origin_colour x)) told_whole
         ∙ colour_told (origin (net_of s) j).colour (few_markers (net_of s) tabled_net (origin (net_of s) j) there)
 
     told_chosen : colour_at s j ≡ chosen (net_of s) (origin (net_of s) j)
@@ -154,11 +157,11 @@ module _ (s : List ℕ) (u : (own : Judged) → unfolding_of s own ≡ own) wher
         (subst (λ (e : ℕ). E' (net_of s) e (chosen (net_of s) x)) (sym told_event) (colours_paper (net_of s) tabled_net.sound x there))
 
   -- a number of which something is told is that of an unfolded event
-  low_of : (j k : ℕ) → (origin_of s j).answer ≡ Ok k → ltb j (basic (net_of s)).events ≡ true
-  unfolding origin_of origin_judged
+  low_of : (j k : ℕ) → origin_answer (origin_of s j) ≡ Ok k → ltb j (basic (net_of s)).events ≡ true
+  unfolding origin_judged
   low_of j k e =
       let own = need (ltb j (basic (net_of s)).events) 10 0 (Ok (length (origin (net_of s) j).colour)) in
-      let fine : own ≡ Ok k = sym (u own) ∙ sym (answer_is (origin_judged s j) (origin (net_of s) j)) ∙ e in
+      let fine : own ≡ Ok k = sym (u own) ∙ sym (event_answer s j) ∙ e in
       (need_fine (ltb j (basic (net_of s)).events) 10 0 k (Ok (length (origin (net_of s) j).colour)) fine).0
 
   events_numbered : EventsNumbered s (basic (net_of s)).events
@@ -184,9 +187,9 @@ module _ (s : List ℕ) (u : (own : Judged) → unfolding_of s own ≡ own) wher
     where
       told_here : (j : ℕ) → ltb j (basic (net_of s)).events ≡ true → ToldAt s j (event_at s j) (colour_at s j)
       told_here j low =
-          record { count = _; answer = ap (λ (x : EventOrigin). x.answer) (told_whole j low); event = refl; same = λ b k. (λ x. x, λ x. x) }
+          record { count = _; answer = ap origin_answer (told_whole j low); event = refl; same = λ b k. (λ x. x, λ x. x) }
 
-      given : (e : ℕ) (d : Colour) (j : ℕ) → j < (basic (net_of s)).events → event_at s j ≡ e → colour_of (origin_of s j).colour ≡ colour_of d
+      given : (e : ℕ) (d : Colour) (j : ℕ) → j < (basic (net_of s)).events → event_at s j ≡ e → colour_of (origin_colour (origin_of s j)) ≡ colour_of d
           → number_of s e d ≡ Ok j
       given e d j h q r =
           let t = told_here j (lt-ltb j (basic (net_of s)).events h) in
@@ -203,7 +206,7 @@ module _ (s : List ℕ) (u : (own : Judged) → unfolding_of s own ≡ own) wher
           let here : origin (net_of s) j ≡ x = origin_number_lem (net_of s) x i in
           record {
             count = _;
-            answer = ap (λ (y : EventOrigin). y.answer) (told_whole j low);
+            answer = ap origin_answer (told_whole j low);
             event = told_event j low ∙ ap (λ (y : UnfoldedEvent). y.event) here ∙ q;
             same = λ b k. subst (λ (c : ℕ → Marker → Type 0). c b k ↔ d b k) (sym (told_chosen j low ∙ ap (chosen (net_of s)) here)) (is b k);
           }
@@ -226,12 +229,12 @@ module _ (s : List ℕ) (u : (own : Judged) → unfolding_of s own ≡ own) wher
 pub conditions_paper_numbered : (s : List ℕ) (c : ℕ) → condition_count_of s ≡ Ok c → ConditionsNumbered s c
 conditions_paper_numbered s c h =
     let o = prefix_passed s (Ok (basic (net_of s)).conditions) c h in
-    subst (ConditionsNumbered s) (fine_same (basic (net_of s)).conditions c o.1) (conditions_numbered s o.0)
+    subst (ConditionsNumbered s) (ok_is o.1) (conditions_numbered s o.0)
 
 pub events_paper_numbered : (s : List ℕ) (c : ℕ) → event_count_of s ≡ Ok c → EventsNumbered s c
 events_paper_numbered s c h =
     let o = prefix_passed s (Ok (basic (net_of s)).events) c h in
-    subst (EventsNumbered s) (fine_same (basic (net_of s)).events c o.1) (events_numbered s o.0)
+    subst (EventsNumbered s) (ok_is o.1) (events_numbered s o.0)
 
 -- ---- the lists of an unfolded event, and the start
 

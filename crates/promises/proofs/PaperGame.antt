@@ -14,7 +14,7 @@ use Rattle.lists.proofs.Bools.{T_of, is_false, not-true}
 use Rattle.model.specs.Net.{Net, Sound, Marking, begin, concession, fire, stopping}
 use Rattle.model.specs.Runs.{runs, end}
 use Rattle.model.specs.Unfolding.{basic}
-use Rattle.model.specs.Across.{of_unfolding, Answer, run, most_steps, unfolding_refused, project}
+use Rattle.model.specs.Across.{of_unfolding, Answer, most_steps, unfolding_refused, project}
 use Rattle.model.specs.Lent.{bytes, marking}
 use Rattle.model.specs.Paper.{◌⊆◌, B, E, holding, BasicFires, MixedFires, copied}
 use Rattle.model.proofs.Firing.{runs_first, runs_rest, runs_cons, can_event, can_concession, can_of, none_can, can_none, fire_none}

@@ -1,13 +1,12 @@
 -- The numbers that the answers of the calls may be refused with, link by link of their chains.
-use mathlib.Core.Path.{◌≡◌, sym, subst}
 use mathlib.Core.Bool.{Bool, true, false, cond}
 use mathlib.Core.Option.{Option, none, some}
-use mathlib.Core.List.{List, ◌∷◌}
+use mathlib.Core.List.{List}
 use Prim.Native.Nat.{ℕ, zero, suc, ◌+◌, ◌*◌, ◌/◌, ◌%◌}
 use lib.Dec.{T, leb, ltb, eqb}
 use lib.ListN.{length, get_or}
 use Rattle.lists.specs.Lists.{mem, all, fits}
-use Rattle.lists.proofs.Bools.{and_left, and_right, and_both, or_right}
+use Rattle.lists.proofs.Bools.{and_left, and_right, and_both}
 use Rattle.lists.proofs.Tests.{all_at, all_of}
 use Rattle.model.specs.Net.{Net, begin, Stop, unknown, lacks, meets, stop_place, stopping}
 use Rattle.model.specs.Runs.{Played, ends, refused, replay, opening, State}
@@ -17,11 +16,11 @@ use Rattle.model.specs.Lent.{marking}
 use Rattle.model.specs.Across.{Whose, stopped, Answer, run, refusal, other, unless, stuck, most_steps, most_unfolded, too_long, within, lowest_idle, idle_or_over, unfolding_refused, own_or_earliest, repeated, again, lifting, lift, projecting, project, no_step, not_apart, exchanging, exchange}
 use Rattle.model.specs.Across as model
 use Rattle.refusal.specs.Answer.{Judged, refused_at, need, and_then, fitting}
-use Rattle.std.specs.Prelude.{Ok, Err, None}
-use Rattle.refusal.specs.Answer as answer
+use Rattle.std.specs.Prelude.{Ok, Err, None, Some, Result, Option as Perhaps}
 use Rattle.words.specs.Words.{words, bits, count_in}
 use Rattle.records.specs.declared.Header.{Header}
-use Rattle.records.specs.Records.{whole, part, header_of, when_whole, ruled, front, conditions, flags, pre_count, post_count, pre_part, post_part}
+use Rattle.refusal.specs.declared.Refusal.{Refusal}
+use Rattle.records.specs.Records.{part, header_of, when_whole, ruled, front, conditions, flags, pre_count, post_count, pre_part, post_part}
 use Rattle.rules.specs.Rules.{rule_of, conditions_of, marking_of}
 use Rattle.event_rules.specs.EventRules.{lists_of, event_of}
 use Rattle.table.specs.Walk.{kind_is, last_of, events_from, judge_of, offset_of}
@@ -54,7 +53,8 @@ use Rattle.promises.specs.Refused.{of_list, of_table_start, of_lossy, of_files, 
 -- ---- the links of a chain
 
 module _ (l : List ℕ) where
-  pub listed_need : (b : Bool) (number place : ℕ) (rest : Judged) → T (listed l (refused_at number place)) → T (listed l rest) → T (listed l (need b number place rest))
+  pub listed_need : (b : Bool) (number place : ℕ) (rest : Judged) → T (listed {A = ℕ} l (refused_at number place)) → T (listed l rest)
+      → T (listed l (need b number place rest))
   unfolding need
   listed_need true number place rest h t = t
   listed_need false number place rest h t = h
@@ -67,9 +67,10 @@ module _ (l : List ℕ) where
   listed_cond true a z h t = h
   listed_cond false a z h t = t
 
-  listed_whole : (h : Header) (at : ℕ) (f : ℕ → ℕ → Judged) → T (listed l (refused_at 1 at)) → ((kind len : ℕ) → T (listed l (f kind len))) → T (listed l (when_whole h at f))
+  listed_whole : (h : Perhaps Header) (at : ℕ) (f : ℕ → ℕ → Judged) → T (listed {A = ℕ} l (refused_at 1 at)) → ((kind len : ℕ) → T (listed l (f kind len)))
+      → T (listed l (when_whole h at f))
   listed_whole None at f h t = h
-  listed_whole (whole kind len) at f h t = t kind len
+  listed_whole (Some header) at f h t = t header.kind header.len
 
   pub listed_fitting : (needed room : ℕ) → T (mem 16 l) → T (listed l (fitting needed room))
   unfolding fitting
@@ -85,16 +86,10 @@ module _ (l : List ℕ) where
   listed_or (some x) rest h t = h
 
 -- more numbers list no less
-pub listed_more : (k l : List ℕ) (a : Judged) → T (all (λ x. mem x l) k) → T (listed k a) → T (listed l a)
+pub listed_more : {A : Type 0} (k l : List ℕ) (a : Result A Refusal) → T (all (λ x. mem x l) k) → T (listed k a) → T (listed l a)
 listed_more k l (Ok v) h t = tt
 listed_more k l (Err x) h t =
     and_both (mem x.number l) (named x) (all_at (λ y. mem y l) k h x.number (and_left (mem x.number k) (named x) t)) (and_right (mem x.number k) (named x) t)
-
--- the number of an answer that is no `Judged`: 0 where nothing is refused
-pub zero_listed : (l : List ℕ) (a : Judged) {number : ℕ} → number ≡ answer.number_of a → T (listed l a) → T (mem number (0 ∷ l))
-zero_listed l (Ok k) e h = rw e tt
-zero_listed l (Err x) e h =
-    subst (λ (k : ℕ). T (mem k (0 ∷ l))) (sym e) (or_right (eqb x.number 0) (mem x.number l) (and_left (mem x.number l) (named x) h))
 
 -- ---- a table
 
@@ -254,7 +249,8 @@ ended_listed l (refusal x) c room h t = t
 
 -- ---- exchange
 
-pub if_listed : (l : List ℕ) (b : Bool) (number place : ℕ) → T (listed l (refused_at number place)) → T (listed_if l (cond b none (some (other number place))))
+pub if_listed : (l : List ℕ) (b : Bool) (number place : ℕ) → T (listed {A = ℕ} l (refused_at number place))
+    → T (listed_if l (cond b none (some (other number place))))
 if_listed l true number place h = tt
 if_listed l false number place h = h
 

@@ -54,7 +54,7 @@ Judging p = ((a : Judged) → p a ≡ a) ⊎ ((x : declared.Refusal) × (T (mem 
 abbrev plain : List ℕ → Bool
 plain l = all (λ x. not (mem x by_condition)) l
 
-plain_not : (l : List ℕ) → T (plain l) → (x : declared.Refusal) → T (listed l (Err x)) → T (mem x.number by_condition) → ⊥
+plain_not : (l : List ℕ) → T (plain l) → (x : declared.Refusal) → T (listed {A = ℕ} l (Err x)) → T (mem x.number by_condition) → ⊥
 plain_not l h x t = not_out (mem x.number by_condition) (all_at (λ y. not (mem y by_condition)) l h x.number (and_left (mem x.number l) (named x) t))
 
 judging_judge : (s : List ℕ) → Judging (λ a. and_then (judge_of s) (λ n. a))

@@ -20,7 +20,7 @@ use Rattle.conditions.specs.Origins.{condition_origin_of, origin_value}
 use Rattle.condition_numbers.specs.Answers.{ordinary_number, copy_number}
 use Rattle.events.specs.declared.Colour.{Colour}
 use Rattle.events.specs.Colours.{colour_of}
-use Rattle.events.specs.Answers.{origin_of}
+use Rattle.events.specs.Answers.{origin_of, origin_answer, origin_event, origin_colour}
 use Rattle.event_numbers.specs.Answers.{number_of}
 
 -- ---- the numbers
@@ -52,16 +52,16 @@ pub record ConditionsNumbered (s : List ℕ) (c : ℕ) : Type 0 where
 
 -- The event that `event_origin` tells of a number (01, Runs across).
 abbrev pub event_at : List ℕ → ℕ → ℕ
-event_at s j = (origin_of s j).event.0
+event_at s j = origin_event (origin_of s j)
 
 -- (b, k) ∈ c, for the colour c that `event_origin` tells of a number (paper, section 6.1; 01, Runs across).
 abbrev pub colour_at : List ℕ → ℕ → ℕ → Marker → Type 0
-colour_at s j b k = T (picked (reads (net_of s) (event_at s j)) (colour_of (origin_of s j).colour) b k)
+colour_at s j b k = T (picked (reads (net_of s) (event_at s j)) (colour_of (origin_colour (origin_of s j))) b k)
 
 -- An event with a choice of markers stands at a number if `event_origin` tells them (01, Runs across).
 pub record ToldAt (s : List ℕ) (j e : ℕ) (c : ℕ → Marker → Type 0) : Type 0 where
   pub count : ℕ
-  pub answer : (origin_of s j).answer ≡ Ok count
+  pub answer : origin_answer (origin_of s j) ≡ Ok count
   pub event : event_at s j ≡ e
   pub same : (b : ℕ) (k : Marker) → colour_at s j b k ↔ c b k
 
@@ -72,7 +72,8 @@ pub record EventsNumbered (s : List ℕ) (c : ℕ) : Type 1 where
   pub within : (j e : ℕ) (d : ℕ → Marker → Type 0) → ToldAt s j e d → (j < c) × E' (net_of s) e d
   pub all : (e : ℕ) (d : ℕ → Marker → Type 0) → E' (net_of s) e d → (j : ℕ) × ToldAt s j e d
   pub one : (j i e : ℕ) (d : ℕ → Marker → Type 0) → ToldAt s j e d → ToldAt s i e d → j ≡ i
-  pub number : (e : ℕ) (d : Colour) (j : ℕ) → (number_of s e d ≡ Ok j) ↔ ((j < c) × (event_at s j ≡ e) × (colour_of (origin_of s j).colour ≡ colour_of d))
+  pub number : (e : ℕ) (d : Colour) (j : ℕ)
+      → (number_of s e d ≡ Ok j) ↔ ((j < c) × (event_at s j ≡ e) × (colour_of (origin_colour (origin_of s j)) ≡ colour_of d))
 
 -- ---- the lists and the start
 

@@ -1,9 +1,8 @@
 -- Which refusals each call may give, and what a refusal leaves: demand 1.
-use Rattle.std.specs.Prelude.{◌≡◌, Bool, true, false, ◌&&◌, List, [], ◌∷◌, ◌++◌, ℕ, T, None, Some, Ok, Err}
+use Rattle.std.specs.Prelude.{◌≡◌, Bool, true, false, ◌&&◌, List, [], ◌∷◌, ◌++◌, ℕ, T, None, Some, Result, Ok, Err}
 use Rattle.lists.specs.Lists.{mem, same}
-use Rattle.refusal.specs.Answer.{By, Judged}
-use Rattle.refusal.specs.declared.Condition.TheVariants.{Table, Unfolded}
 use Rattle.refusal.specs.declared.Refusal.{Refusal}
+use Rattle.refusal.specs.Answer.{By, Judged}
 use Rattle.outward.specs.declared.Answer.{Answer}
 
 -- ---- numbers by what is asked
@@ -109,15 +108,14 @@ by_condition = 11 ∷ 12 ∷ []
 -- A condition is named (02, No. 2).
 abbrev pub naming : By → Bool
 naming None = false
-naming (Some (Table b)) = true
-naming (Some (Unfolded b)) = true
+naming (Some condition) = true
 
 -- A refusal names the condition exactly with 11 and 12 (02, No. 2).
 abbrev pub named : Refusal → Bool
 named refusal = same (mem refusal.number by_condition) (naming refusal.by)
 
 -- An answer is fine, or refused with one of these numbers and, exactly with 11 and 12, with the condition (01, Refusal numbers; 02, No. 2).
-abbrev pub listed : List ℕ → Judged → Bool
+abbrev pub listed : {A : Type 0} → List ℕ → Result A Refusal → Bool
 listed numbers (Ok value) = true
 listed numbers (Err refusal) = mem refusal.number numbers && named refusal
 
