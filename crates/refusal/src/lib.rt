@@ -1,8 +1,11 @@
 // What every call shares: the limits, the refusal with its number and place, the four numberings kept apart, and the marker.
 #![tactic(auto)]
 
-ghost use Rattle.std.specs.Prelude.{◌≡◌};
+ghost use Rattle.std.specs.Prelude.{◌≡◌, Some, decimal};
 ghost use Rattle.refusal.specs.Answer.{condition_number, refused_at, refused_by, number_of, place_of, by_of, value_of};
+ghost use Rattle.refusal.specs.Words.{refusal_words};
+
+use std::fmt;
 
 // A run has at most this many steps.
 pub const MOST_STEPS: usize = 4096;
@@ -45,12 +48,33 @@ impl Condition {
     }
 }
 
+impl fmt::Display for Condition {
+    ghost output = { λ c. Some (decimal (condition_number c)) };
+
+    fn fmt<W: fmt::Write>(&self, f: &mut fmt::Formatter<W>) -> fmt::Result {
+        write!(f, "{}", self.number())
+    }
+}
+
 // Why a call is refused, by number, and where; beside it the condition that stopped a step, for the numbers 11 and 12 alone.
 #[derive(Clone, Copy)]
 pub struct Refusal {
     pub number: u8,
     pub place: usize,
     pub by: Option<Condition>,
+}
+
+impl fmt::Display for Refusal {
+    ghost output = { λ refusal. Some (refusal_words refusal) };
+
+    fn fmt<W: fmt::Write>(&self, f: &mut fmt::Formatter<W>) -> fmt::Result {
+        let Refusal { number, place, by } = *self;
+        write!(f, "refused {number} at {place}")?;
+        match by {
+            Some(condition) => write!(f, " by {condition}"),
+            None => Ok(()),
+        }
+    }
 }
 
 // What marked a persistent condition: the start, or an event of the table.
