@@ -9,18 +9,9 @@ use std::io;
 // One line: the number of events, or the refusal's number and place.
 fn verdict(rt: &impl Print, table: &[u8]) -> io::Result<()> {
     match table::judge(table) {
-        Ok(events) => {
-            rt.write_all(b"fine ")?;
-            rt.print(events as u64)?;
-        }
-        Err(refusal) => {
-            rt.write_all(b"refused ")?;
-            rt.print(refusal.number as u64)?;
-            rt.write_all(b" at ")?;
-            rt.print(refusal.place as u64)?;
-        }
+        Ok(events) => println!(rt; "fine {events}"),
+        Err(refusal) => println!(rt; "{refusal}"),
     }
-    rt.write_all(b"\n")
 }
 
 // Net A's table, byte for byte as docs/FORMAT.md has it.
@@ -73,11 +64,10 @@ fn crowded() -> [u8; 2579] {
     let mut table = [0u8; 2579];
     table[0] = 1;
     table[2] = 1;
-    for k in 0..257usize {
-        let at = 5 + 10 * k;
-        table[at] = 6;
-        table[at + 2] = 2;
-        table[at + 6] = 1;
+    for event in table[5..2575].chunks_exact_mut(10) {
+        event[0] = 6;
+        event[2] = 2;
+        event[6] = 1;
     }
     table[2577] = 3;
     table
