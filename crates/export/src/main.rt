@@ -84,7 +84,14 @@ fn show<'a>(
 // The export of the bytes of a table's file.
 fn export(rt: &impl Print, table: &[u8]) -> io::Result<()> {
     if MOST_BYTES < table.len() {
-        return files::refuse(rt, refusal::refused(19, 0));
+        return files::refuse(
+            rt,
+            Refusal {
+                number: 19,
+                place: 0,
+                by: None,
+            },
+        );
     }
     let mut markers = [0u32; 256];
     let mut users = [0u32; 256];
@@ -92,7 +99,7 @@ fn export(rt: &impl Print, table: &[u8]) -> io::Result<()> {
     let mut start = [0u8; 65535];
     match elements::open(table, &mut markers, &mut users, &mut bases, &mut start) {
         Ok(opened) => show(rt, table, opened, &markers, &users, &bases, &start),
-        Err(refusal) => files::refuse(rt, Err(refusal)),
+        Err(refusal) => files::refuse(rt, refusal),
     }
 }
 

@@ -41,7 +41,7 @@ fn list<'a>(rt: &impl Print, net: &'a [u8], run: &'a [u8]) -> io::Result<()> {
     let mut offsets = [0usize; 256];
     let mut marking = [0u8; 256];
     let mut end = [0u8; 65535];
-    let files = opening::open_files(
+    match opening::open_files(
         net,
         run,
         &mut steps,
@@ -49,21 +49,19 @@ fn list<'a>(rt: &impl Print, net: &'a [u8], run: &'a [u8]) -> io::Result<()> {
         &mut offsets,
         &mut marking,
         &mut end,
-    );
-    let opened = match files {
-        Ok(opened) => opened,
-        Err(refusal) => return files::refuse(rt, Err(refusal)),
-    };
-    show(
-        rt,
-        net,
-        opened.events,
-        &offsets,
-        &steps[0..opened.steps],
-        &lifted[0..opened.steps],
-        &end[0..opened.unfolded],
-        &mut marking[0..opened.conditions],
-    )
+    ) {
+        Ok(opened) => show(
+            rt,
+            net,
+            opened.events,
+            &offsets,
+            &steps[0..opened.steps],
+            &lifted[0..opened.steps],
+            &end[0..opened.unfolded],
+            &mut marking[0..opened.conditions],
+        ),
+        Err(refusal) => files::refuse(rt, refusal),
+    }
 }
 
 fn main(rt: HostRuntime) -> io::Result<()> {

@@ -21,7 +21,7 @@ fn tell(rt: &impl Print, answer: Result<usize, Refusal>) -> io::Result<()> {
             number(rt, value)?;
             rt.write_all(b"\n")
         }
-        Err(_) => files::refuse(rt, answer),
+        Err(refusal) => files::refuse(rt, refusal),
     }
 }
 
@@ -78,8 +78,7 @@ fn event(rt: &impl Print, table: &[u8], e: u16) -> io::Result<()> {
 
 // The events up to one past the last, and the highest number.
 fn events(rt: &impl Print, table: &[u8]) -> io::Result<()> {
-    let r = table::event_count(table);
-    let count = refusal::value_of(r);
+    let count = refusal::value_of(table::event_count(table));
     for e in 0..257 {
         if (e as usize) <= count {
             event(rt, table, e)?;
@@ -89,11 +88,11 @@ fn events(rt: &impl Print, table: &[u8]) -> io::Result<()> {
 }
 
 // Whether a condition is persistent, to the end of its line.
-fn kind(rt: &impl Print, answer: Persistence) -> io::Result<()> {
+fn kind(rt: &impl Print, answer: Result<Persistence, Refusal>) -> io::Result<()> {
     match answer {
-        Persistence::Ordinary => rt.write_all(b"ordinary\n"),
-        Persistence::Persistent => rt.write_all(b"persistent\n"),
-        Persistence::Refused(refusal) => files::refuse(rt, Err(refusal)),
+        Ok(Persistence::Ordinary) => rt.write_all(b"ordinary\n"),
+        Ok(Persistence::Persistent) => rt.write_all(b"persistent\n"),
+        Err(refusal) => files::refuse(rt, refusal),
     }
 }
 
@@ -107,8 +106,7 @@ fn condition(rt: &impl Print, table: &[u8], b: u16) -> io::Result<()> {
 
 // The conditions up to one past the last, and the highest number.
 fn conditions(rt: &impl Print, table: &[u8]) -> io::Result<()> {
-    let r = table::condition_count(table);
-    let count = refusal::value_of(r);
+    let count = refusal::value_of(table::condition_count(table));
     for b in 0..257 {
         if (b as usize) <= count {
             condition(rt, table, b)?;
@@ -147,12 +145,13 @@ fn replayed_file<'a>(
     run: &'a [u8],
 ) -> io::Result<()> {
     let mut steps = [0u16; 4096];
-    let answer = runs::read_run(run, &mut steps);
-    let Ok(count) = answer else {
-        rt.write_all(b"run")?;
-        return tell(rt, answer);
-    };
-    replayed(rt, table, marking, &steps[0..count])
+    match runs::read_run(run, &mut steps) {
+        Ok(count) => replayed(rt, table, marking, &steps[0..count]),
+        Err(refusal) => {
+            rt.write_all(b"run")?;
+            tell(rt, Err(refusal))
+        }
+    }
 }
 
 // Everything that is told of a table.
