@@ -1,8 +1,6 @@
 // Plays nets A, B and E, and B under the old rule, and writes each answer and what it left in lent memory; run by the gate.
 #![tactic(auto)]
 
-ghost use Rattle.std.specs.Prelude.{◌≤◌, length};
-
 use refusal::{Refusal, TableEvent};
 use std::{fmt, io};
 
@@ -36,15 +34,10 @@ fn concedes<'a>(rt: &impl Print, table: &'a [u8], marking: &'a [u8], event: u16)
     println!(rt; "concession {answer}")
 }
 
-// An event fired at a marking of at most four conditions, and the marking after it.
-fn fires(rt: &impl Print, table: &[u8], marking: &[u8], event: u16) -> io::Result<()>
-    requires { length marking.now ≤ 4 }
-{
-    let count = marking.len();
-    let mut lent = [9u8; 4];
-    lent[..count].copy_from_slice(marking);
-    let answer = Told(game::fire(table, &mut lent[..count], TableEvent(event)));
-    println!(rt; "fire {answer}: {}", Lent(lent))
+// An event fired at a marking.
+fn fires(rt: &impl Print, table: &[u8], marking: &mut [u8], event: u16) -> io::Result<()> {
+    let answer = Told(game::fire(table, marking, TableEvent(event)));
+    print!(rt; "fire {answer}: ")
 }
 
 // A run replayed from the table's marking, and its end.
@@ -87,8 +80,12 @@ fn net_a(rt: &impl Print) -> io::Result<()> {
     concedes(rt, &table, &[1, 0, 0, 0], 3)?;
     concedes(rt, &table, &[1, 0, 0], 0)?;
     concedes(rt, &table, &[1, 2, 0, 0], 0)?;
-    fires(rt, &table, &[1, 0, 1, 0], 0)?;
-    fires(rt, &table, &[1, 1, 0, 0], 0)?;
+    let mut fired: [u8; 4] = [1, 0, 1, 0];
+    fires(rt, &table, &mut fired, 0)?;
+    println!(rt; "{}", Lent(fired))?;
+    let mut kept: [u8; 4] = [1, 1, 0, 0];
+    fires(rt, &table, &mut kept, 0)?;
+    println!(rt; "{}", Lent(kept))?;
     replays_from(rt, &table, &[0, 1, 1, 0], &[1u16])?;
     replays_from(rt, &table, &[0, 1, 1, 0], &[1u16, 1])?;
     exchanges(rt, &table, 0)?;
@@ -99,7 +96,9 @@ fn net_a(rt: &impl Print) -> io::Result<()> {
 fn net_b(rt: &impl Print) -> io::Result<()> {
     let table =
         *b"\x02\x00\x01\x00\x00\x01\x0a\x00\x02\x00\x01\x00\x02\x00\x00\x00\x00\x00\x01\x00\x06\x00\x02\x00\x01\x00\x00\x00\x01\x00\x02\x00\x03\x00\x00\x00";
-    fires(rt, &table, &[1, 0], 0)?;
+    let mut fired: [u8; 2] = [1, 0];
+    fires(rt, &table, &mut fired, 0)?;
+    println!(rt; "{}", Lent([fired[0], fired[1], 9, 9]))?;
     replays(rt, &table, &[0u16, 0])?;
     replays(rt, &table, &[1u16])
 }
@@ -108,8 +107,12 @@ fn net_b(rt: &impl Print) -> io::Result<()> {
 fn net_b_old(rt: &impl Print) -> io::Result<()> {
     let table =
         *b"\x01\x00\x06\x00\x01\x02\x00\x01\x00\x00\x01\x0a\x00\x02\x00\x01\x00\x02\x00\x00\x00\x00\x00\x01\x00\x06\x00\x02\x00\x01\x00\x00\x00\x01\x00\x02\x00\x03\x00\x00\x00";
-    fires(rt, &table, &[1, 0], 0)?;
-    fires(rt, &table, &[1, 1], 1)?;
+    let mut kept: [u8; 2] = [1, 0];
+    fires(rt, &table, &mut kept, 0)?;
+    println!(rt; "{}", Lent([kept[0], kept[1], 9, 9]))?;
+    let mut fired: [u8; 2] = [1, 1];
+    fires(rt, &table, &mut fired, 1)?;
+    println!(rt; "{}", Lent([fired[0], fired[1], 9, 9]))?;
     replays(rt, &table, &[0u16, 0])
 }
 
