@@ -6,7 +6,6 @@ ghost use Rattle.elements.specs.Needs.{Ready};
 
 use elements::Opened;
 use export_places::Place;
-use refusal::Refusal;
 use std::io;
 
 // The most bytes that a table has.
@@ -84,14 +83,7 @@ fn show<'a>(
 // The export of the bytes of a table's file.
 fn export(rt: &impl Print, table: &[u8]) -> io::Result<()> {
     if MOST_BYTES < table.len() {
-        return files::refuse(
-            rt,
-            Refusal {
-                number: 19,
-                place: 0,
-                by: None,
-            },
-        );
+        return files::refuse(rt, refusal::refused(19, 0));
     }
     let mut markers = [0u32; 256];
     let mut users = [0u32; 256];
@@ -99,7 +91,7 @@ fn export(rt: &impl Print, table: &[u8]) -> io::Result<()> {
     let mut start = [0u8; 65535];
     match elements::open(table, &mut markers, &mut users, &mut bases, &mut start) {
         Ok(opened) => show(rt, table, opened, &markers, &users, &bases, &start),
-        Err(refusal) => files::refuse(rt, refusal),
+        Err(refusal) => files::refuse(rt, Err(refusal)),
     }
 }
 

@@ -24,8 +24,8 @@ pub fn read_file(rt: &impl Files, path: &[u8], buffer: &mut [u8]) -> usize
 }
 
 // The line of a refusal written out.
-pub fn refuse(rt: &impl Print, refusal: Refusal) -> io::Result<()> {
+pub fn refuse(rt: &impl Print, answer: Result<usize, Refusal>) -> io::Result<()> {
     let mut text = [0u8; 2048];
-    let count = lines::write_refused(Err(refusal), &mut text);
+    let count = lines::write_refused(answer, &mut text);
     rt.write_all(&text[0..count])
 }

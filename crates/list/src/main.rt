@@ -60,7 +60,7 @@ fn list<'a>(rt: &impl Print, net: &'a [u8], run: &'a [u8]) -> io::Result<()> {
             &end[0..opened.unfolded],
             &mut marking[0..opened.conditions],
         ),
-        Err(refusal) => files::refuse(rt, refusal),
+        Err(refusal) => files::refuse(rt, Err(refusal)),
     }
 }
 

@@ -21,7 +21,7 @@ fn tell(rt: &impl Print, answer: Result<usize, Refusal>) -> io::Result<()> {
             number(rt, value)?;
             rt.write_all(b"\n")
         }
-        Err(refusal) => files::refuse(rt, refusal),
+        Err(refusal) => files::refuse(rt, Err(refusal)),
     }
 }
 
@@ -92,7 +92,7 @@ fn kind(rt: &impl Print, answer: Result<Persistence, Refusal>) -> io::Result<()>
     match answer {
         Ok(Persistence::Ordinary) => rt.write_all(b"ordinary\n"),
         Ok(Persistence::Persistent) => rt.write_all(b"persistent\n"),
-        Err(refusal) => files::refuse(rt, refusal),
+        Err(refusal) => files::refuse(rt, Err(refusal)),
     }
 }
 
