@@ -127,14 +127,6 @@ module _ (n : Net) (r : List ℕ) (k : ℕ) (repeat : Perhaps ℕ) (slots : List
         repeats = p ∙ ap (λ (l : List ℕ). soonest repeat (repeated n (own_or_earliest n) k s l)) (sym next) ∙ a.repeats;
       }
 
-  -- a step that is no repeat leaves the one that is to come
-  no_repeat : marks_for_others n e && s.seen e ≡ false
-      → soonest repeat (repeated n (own_or_earliest n) (k + 1) (step n s e) (drop (k + 1) r))
-      ≡ soonest repeat (repeated n (own_or_earliest n) k s (e ∷ drop (k + 1) r))
-  no_repeat h =
-      let next_step = ap (λ (j : ℕ). repeated n (own_or_earliest n) j (step n s e) (drop (k + 1) r)) (add-one k) in
-      ap (soonest repeat) (next_step ∙ sym (repeated_later n k s e (drop (k + 1) r) h))
-
   -- an event occurs for the first time
   pub along_new : e < 256 → get_or seen e false ≡ false → (slots' : List Slot) → length slots' ≡ 256
       → ((b : ℕ) → b < 256 → first_at slots' b ≡ or_else (first_at slots b) (marker (n.persistent b) (mem b (n.postconditions e)) (by_event e)))
@@ -144,7 +136,7 @@ module _ (n : Net) (r : List ℕ) (k : ℕ) (repeat : Perhaps ℕ) (slots : List
       stepped repeat slots' (set seen e true)
       (record { size = w; each = λ b g. f b g ∙ ap (λ (o : Option Marker). or_else o (marker (n.persistent b) (mem b (n.postconditions e)) (by_event e))) (a.firsts.each b g) })
       (record { size = length-set seen e true ∙ a.seens.size; each = λ x g. go x g (ℕ_discrete x e) })
-      (no_repeat (rw (occurred l false z, and-false)))
+      (ap (soonest repeat) (ap (λ (j : ℕ). repeated n (own_or_earliest n) j (step n s e) (drop (k + 1) r)) (add-one k) ∙ sym (repeated_later n k s e (drop (k + 1) r) (rw (occurred l false z, and-false)))))
     where
       go : (x : ℕ) → x < 256 → Dec (x ≡ e) → get_or (set seen e true) x false ≡ (eqb x e || s.seen x)
       go x g (yes y) = rw (y, get_or-set_same seen e true false (omega (arith, a.seens.size)), eq-eqb e e refl)
@@ -169,7 +161,8 @@ module _ (n : Net) (r : List ℕ) (k : ℕ) (repeat : Perhaps ℕ) (slots : List
     -- an event that marks for nobody else occurs again
     pub along_again : marks_for_others n e ≡ false → Along n r (k + 1) repeat slots seen
     along_again m =
-        stepped repeat slots seen same_firsts same_seens (no_repeat (rw m))
+        stepped repeat slots seen same_firsts same_seens
+        (ap (soonest repeat) (ap (λ (j : ℕ). repeated n (own_or_earliest n) j (step n s e) (drop (k + 1) r)) (add-one k) ∙ sym (repeated_later n k s e (drop (k + 1) r) (rw m))))
 
     -- an event that marks for others occurs again
     pub along_repeat : marks_for_others n e ≡ true → (j : ℕ) → j ≡ k → Along n r (k + 1) (option_or repeat (Some j)) slots seen

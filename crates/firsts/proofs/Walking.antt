@@ -2,8 +2,9 @@
 use Prim.Native.Nat.{ℕ, ◌<◌}
 use native.Mathlib.Omega.{arith}
 use mathlib.Core.Path.{◌≡◌, refl, sym, ap, ◌∙◌}
-use mathlib.Core.Bool.{Bool, true, false}
+use mathlib.Core.Bool.{Bool, true}
 use mathlib.Core.List.{List}
+use lib.Dec.{eqb}
 use lib.ListN.{length, get_or, length-replicate}
 use Rattle.lists.specs.Lists.{mem}
 use Rattle.words.specs.Words.{words}
@@ -90,6 +91,9 @@ module _ (s : List ℕ) (events : ℕ) (offsets r : List ℕ) (w : Walkable s ev
   pub step_offset : get_or offsets (get_or r k 0) 0 ≡ offset_of s (get_or r k 0)
   step_offset = w.indexed.each (get_or r k 0) (omega (arith, step_event, events_are_all s events w.judged))
 
-  module _ (once : List Bool) (o : Once (net_of s) once) where
-    pub step_others : (t : Bool) → get_or once (get_or r k 0) false ≡ t → marks_for_others (net_of s) (get_or r k 0) ≡ t
+  module _ (once : List ℕ) (o : Once (net_of s) once) where
+    pub step_once : get_or r k 0 < length once
+    step_once = omega (arith, step_low, o.size)
+
+    pub step_others : (t : Bool) → eqb (get_or once (get_or r k 0) 0) 1 ≡ t → marks_for_others (net_of s) (get_or r k 0) ≡ t
     step_others t z = sym (o.each (get_or r k 0) step_event) ∙ z

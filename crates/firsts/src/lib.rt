@@ -54,7 +54,7 @@ pub fn walk<'a>(
     table: &'a [u8],
     events: usize,
     offsets: &'a [usize],
-    once: &'a [bool; 256],
+    once: &'a [u8],
     run: &'a [u16],
     seen: &mut [bool; 256],
 ) -> Walked
@@ -70,7 +70,7 @@ pub fn walk<'a>(
     for (k, event) in run.iter().enumerate() {
         let e = *event as usize;
         if seen[e] {
-            if once[e] {
+            if once[e] == 1 {
                 repeat = repeat.or(Some(k));
             }
         } else {

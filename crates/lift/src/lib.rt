@@ -42,7 +42,7 @@ fn lift_played<'a>(
     ensures answer { result ≡ fitted (lifting (net_of table.now) (own_or_earliest (net_of table.now)) 0 (opening (net_of table.now)) run.now) (length out.old) }
     ensures after { out.new ≡ written result (numbers_of (lifting (net_of table.now) (own_or_earliest (net_of table.now)) 0 (opening (net_of table.now)) run.now)) out.old }
 {
-    let mut once = [false; 256];
+    let mut once = [0u8; 256];
     repeats::once_only(table, events, users, &mut once);
     let mut seen = [false; 256];
     let walked = firsts::walk(table, events, offsets, &once, run, &mut seen);

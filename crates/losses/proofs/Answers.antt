@@ -1,7 +1,7 @@
 -- What the call answers and leaves, and what is known of a table before its bytes are written.
 use Prim.Native.Nat.{ℕ, ◌≤◌, ◌<◌}
 use mathlib.Core.Path.{◌≡◌, sym, ap, ap₂, ◌∙◌, subst}
-use mathlib.Core.Bool.{Bool, true, false}
+use mathlib.Core.Bool.{true, false}
 use mathlib.Core.List.{List, ◌++◌}
 use lib.ListN.{length, drop}
 use Rattle.model.specs.Net.{Net}
@@ -63,5 +63,5 @@ module _ (s : List ℕ) (k : ℕ) (j : judge_of s ≡ Ok k) where
   used users t =
       record { limits = tabled s k j; flags = flags_are; uses = subst (λ (x : ℕ). Tally (net_of s) false 0 x users) (events_are_all s k j) t }
 
-  pub known : (once : List Bool) (puts : List ℕ) → Once (net_of s) once → Tally (net_of s) true 0 k puts → Known s k once puts
+  pub known : (once puts : List ℕ) → Once (net_of s) once → Tally (net_of s) true 0 k puts → Known s k once puts
   known once puts o t = record { limits = tabled s k j; flags = flags_are; counted = events_are_all s k j; marks = o; putting = t }

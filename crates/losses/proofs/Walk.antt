@@ -40,7 +40,7 @@ zero_empty (x ∷ l) k e = ne_eqb k 0 (λ z. omega arith)
 
 -- ---- an event of the table
 
-module _ (s : List ℕ) (events : ℕ) (once : List Bool) (puts : List ℕ) (k : Known s events once puts) where
+module _ (s : List ℕ) (events : ℕ) (once puts : List ℕ) (k : Known s events once puts) where
   ordinary_read : (l other : List ℕ) → all (kept_at s other) l ≡ ordinary_in (net_of s) l other
   unfolding ordinary_in
   ordinary_read l other =
@@ -70,7 +70,7 @@ module _ (s : List ℕ) (events : ℕ) (once : List Bool) (puts : List ℕ) (k :
     unfolding spends
     spends_read = any_same (spent_at s puts) (spent (net_of s)) taken (λ b t. spent_read b (list_inside s e here false b t))
 
-    lossy_read : get_or once e false && recurs_at s puts taken put ≡ lossy (net_of s) e
+    lossy_read : eqb (get_or once e 0) 1 && recurs_at s puts taken put ≡ lossy (net_of s) e
     unfolding lossy recurs
     lossy_read =
         let again : recurs_at s puts taken put ≡ recurs (net_of s) e = ap₂ {C = Bool} (λ x y. not x && not y) steady_read spends_read in
@@ -78,7 +78,7 @@ module _ (s : List ℕ) (events : ℕ) (once : List Bool) (puts : List ℕ) (k :
 
     -- a walk over the events that is at event e
     pub lossy_walk : (at : ℕ) (q : at ≡ offset_of s e) (pre : List ℕ) (p : pre ≡ list_part false s at) (post : List ℕ) {r : Bool}
-        → post ≡ list_part true s at → r ≡ (get_or once e false && recurs_at s puts (words pre) (words post)) → r ≡ lossy (net_of s) e
+        → post ≡ list_part true s at → r ≡ (eqb (get_or once e 0) 1 && recurs_at s puts (words pre) (words post)) → r ≡ lossy (net_of s) e
     lossy_walk at q pre p post z t = t ∙ rw (p, z, q, list_read s e here false, list_read s e here true) lossy_read
 
 -- ---- the bytes

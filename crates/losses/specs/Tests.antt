@@ -25,7 +25,7 @@ recurs_at s puts pre post = not (steady_at s pre post) && not (any (spent_at s p
 
 -- What is known of a table before its lossy events are written: its flags tell what is persistent, which events mark for others, and how
 -- many events put each condition.
-pub record Known (s : List ℕ) (events : ℕ) (once : List Bool) (puts : List ℕ) : Type 0 where
+pub record Known (s : List ℕ) (events : ℕ) (once puts : List ℕ) : Type 0 where
   pub limits : Tabled (net_of s)
   pub flags : (b : ℕ) → flagged s b ≡ (net_of s).persistent b
   pub counted : events ≡ (net_of s).events

@@ -1,7 +1,7 @@
 // Which events of a table may lose a run in the unfolded net when they come again; the call stands at the end.
 #![tactic(auto)]
 
-ghost use Rattle.std.specs.Prelude.{◌≡◌, ◌&&◌, ◌++◌, ◌≤◌, length, drop};
+ghost use Rattle.std.specs.Prelude.{◌≡◌, ◌&&◌, ◌++◌, ◌≤◌, eqb, length, drop};
 ghost use Rattle.lists.specs.Lists.{all, any};
 ghost use Rattle.model.specs.Lent.{bytes};
 ghost use Rattle.words.specs.Words.{words};
@@ -69,21 +69,18 @@ fn recurs<'a>(table: &'a [u8], puts: &'a [u32], pre: &'a [u8], post: &'a [u8]) -
     true
 }
 
-// Whether an event with these lists is lossy, by whether it marks for others.
-fn is_lossy<'a>(table: &'a [u8], once: bool, puts: &'a [u32], pre: &'a [u8], post: &'a [u8]) -> bool
-    ensures { result ≡ (once && recurs_at table.now puts.now (words pre.now) (words post.now)) }
+// Whether an event with these lists is lossy, by its byte that tells whether it marks for others.
+fn is_lossy<'a>(table: &'a [u8], once: u8, puts: &'a [u32], pre: &'a [u8], post: &'a [u8]) -> bool
+    ensures { result ≡ (eqb once 1 && recurs_at table.now puts.now (words pre.now) (words post.now)) }
 {
-    once && recurs(table, puts, pre, post)
+    if once == 1 {
+        return recurs(table, puts, pre, post);
+    }
+    false
 }
 
 // A byte for each event to the front of a lent output, in one walk over the table.
-fn write_lossy<'a>(
-    table: &'a [u8],
-    events: usize,
-    once: &'a [bool; 256],
-    puts: &'a [u32],
-    out: &mut [u8],
-)
+fn write_lossy<'a>(table: &'a [u8], events: usize, once: &'a [u8], puts: &'a [u32], out: &mut [u8])
     requires known { Known table.now events once.now puts.now }
     requires events_in_bounds { events ≤ length out.old }
     ensures { out.new ≡ bytes events (lossy (net_of table.now)) ++ drop events out.old }
@@ -106,7 +103,7 @@ pub fn lossy(table: &[u8], out: &mut [u8]) -> Result<usize, Refusal>
     }
     let mut counts = [0u32; 256];
     tally::tally(table, events, false, 0, &mut counts);
-    let mut once = [false; 256];
+    let mut once = [0u8; 256];
     repeats::once_only(table, events, &counts, &mut once);
     tally::tally(table, events, true, 0, &mut counts);
     write_lossy(table, events, &once, &counts, out);

@@ -1,4 +1,4 @@
--- The walk over the events: what the table's numbers tell of an event is what the net says, and it is written for each.
+-- The walk over the events: what the table's numbers tell of an event is what the net says, and a byte is written for each.
 use Prim.Native.Nat.{ℕ, ◌+◌, ◌<◌}
 use native.Mathlib.Omega.{arith}
 use native.Mathlib.Decide.{ℕ_discrete}
@@ -45,17 +45,16 @@ module _ (s us : List ℕ) (u : Used s us) where
     marks_walk at q pre p post z t =
         t ∙ rw (p, z, q, list_read s e h false, list_read s e h true) (marks_read ((net_of s).postconditions e) (λ b t. list_inside s e h true b t))
 
--- ---- what is written
+-- ---- the bytes
 
 -- those of the first k events are written
-pub record Upto (n : Net) (k : ℕ) (once : List Bool) : Type 0 where
+pub record Upto (n : Net) (k : ℕ) (once : List ℕ) : Type 0 where
   pub size : length once ≡ 256
-  pub each : (e : ℕ) → e < k → get_or once e false ≡ marks_for_others n e
+  pub each : (e : ℕ) → e < k → eqb (get_or once e 0) 1 ≡ marks_for_others n e
 
-pub upto_next : (n : Net) (k : ℕ) (once : List Bool) → Upto n k once → k < 256 → (v : Bool) → v ≡ marks_for_others n k
-    → Upto n (k + 1) (set once k v)
+pub upto_next : (n : Net) (k : ℕ) (once : List ℕ) → Upto n k once → k < 256 → (v : ℕ) → eqb v 1 ≡ marks_for_others n k → Upto n (k + 1) (set once k v)
 upto_next n k once u l v m = record { size = length-set once k v ∙ u.size; each = λ e h. go e h (ℕ_discrete e k) }
   where
-    go : (e : ℕ) → e < k + 1 → Dec (e ≡ k) → get_or (set once k v) e false ≡ marks_for_others n e
-    go e h (yes z) = rw (z, get_or-set_same once k v false (omega (arith, u.size))) m
-    go e h (no z) = rw (get_or-set_other once k e v false z) (u.each e (omega (arith, z)))
+    go : (e : ℕ) → e < k + 1 → Dec (e ≡ k) → eqb (get_or (set once k v) e 0) 1 ≡ marks_for_others n e
+    go e h (yes z) = rw (z, get_or-set_same once k v 0 (omega (arith, u.size))) m
+    go e h (no z) = rw (get_or-set_other once k e v 0 z) (u.each e (omega (arith, z)))

@@ -1,5 +1,5 @@
 -- Which events mark for others, told from the numbers of users.
-use Rattle.std.specs.Prelude.{ℕ, ◌<◌, ◌≡◌, Bool, false, ◌&&◌, cond, List, ltb, length, get_or}
+use Rattle.std.specs.Prelude.{ℕ, ◌<◌, ◌≡◌, Bool, false, ◌&&◌, cond, List, eqb, ltb, length, get_or}
 use Rattle.lists.specs.Lists.{mem}
 use Rattle.model.specs.Net.{Net}
 use Rattle.model.specs.Across.{marks_for_others}
@@ -18,7 +18,7 @@ pub record Used (s users : List ℕ) : Type 0 where
 abbrev pub others_at : List ℕ → List ℕ → List ℕ → ℕ → Bool
 others_at s users pre b = flagged s b && ltb (cond (mem b pre) 1 0) (get_or users b 0)
 
--- It is told of each event of a net whether it marks for others, so that it may occur only once in a lifted run (02, No. 3).
-pub record Once (n : Net) (once : List Bool) : Type 0 where
+-- A byte for each event of a net, 1 exactly if it marks for others, so that it may occur only once in a lifted run (02, No. 3).
+pub record Once (n : Net) (once : List ℕ) : Type 0 where
   pub size : length once ≡ 256
-  pub each : (e : ℕ) → e < n.events → get_or once e false ≡ marks_for_others n e
+  pub each : (e : ℕ) → e < n.events → eqb (get_or once e 0) 1 ≡ marks_for_others n e

@@ -2,7 +2,7 @@
 // all events.
 #![tactic(auto)]
 
-ghost use Rattle.std.specs.Prelude.{◌≡◌};
+ghost use Rattle.std.specs.Prelude.{◌≡◌, length};
 ghost use Rattle.lists.specs.Lists.{any};
 ghost use Rattle.words.specs.Words.{words};
 ghost use Rattle.table.specs.Decoded.{net_of};
@@ -33,14 +33,15 @@ fn marks_for_others<'a>(table: &'a [u8], users: &'a [u32], pre: &'a [u8], post: 
 }
 
 // For each event of a table whether it marks for others, in one walk over the table.
-pub fn once_only<'a>(table: &'a [u8], events: usize, users: &'a [u32], once: &mut [bool; 256])
+pub fn once_only<'a>(table: &'a [u8], events: usize, users: &'a [u32], once: &mut [u8])
     requires events_value { events ≡ (net_of table.now).events }
     requires used { Used table.now users.now }
+    requires once_len { length once.old ≡ 256 }
     ensures { Once (net_of table.now) once.new }
 {
     for event in table::events(table, events) {
         let pre = tally::list_at(table, event.at, false);
         let post = tally::list_at(table, event.at, true);
-        once[event.number] = marks_for_others(table, users, pre, post);
+        once[event.number] = marks_for_others(table, users, pre, post) as u8;
     }
 }

@@ -1,4 +1,5 @@
 -- `firsts::walk` meets its contract.
+use borrow.Author.Tests.{eq-eqb, ne_eqb}
 use native.Mathlib.Omega.{arith}
 use mathlib.Core.Path.{refl}
 use mathlib.Core.Bool.{true, false}
@@ -36,7 +37,7 @@ bounds-seen-e c =
 
 pub bounds-once-e : goal.bounds-once-e
 bounds-once-e c =
-    omega (arith, step_low _ _ _ _ c.requires.walkable _ _ _ _ c.loop-k.invariant c.loop-k-test.true)
+    step_once _ _ _ _ c.requires.walkable _ _ _ _ c.loop-k.invariant c.loop-k-test.true _ c.requires.once
 
 pub bounds-seen-e-else-seen-e : goal.bounds-seen-e-else-seen-e
 bounds-seen-e-else-seen-e c =

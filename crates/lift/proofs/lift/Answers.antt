@@ -38,11 +38,11 @@ pub returns-in_err-play : goal.returns-in_err-play
 returns-in_err-play c =
     let s = c.args.table.now in
     let r = c.args.run.now in
-    let own = fitted (lifting_of (net_of s) r) (length c.args.out.now) in
+    let room = length c.args.out.now in
     let go = laid_open s r c.lay_out_run.ensures.answer c.in_ok-events.was in
     let told : c.from_residual-in_err-play.result ≡ Err c.in_err-play.field-0.0 = search rules in
     let p = begun_plays _ _ _ c.start_held-start.ensures _ _ c.play.ensures in
-    let stops = lift_stopped s r _ p _ (go (Ok 0)) (go own) c.in_err-play.was in
+    let stops = lift_stopped s r _ p room (go (Ok 0)) (go (fitted (lifting_of (net_of s) r) room)) c.in_err-play.was in
     let whole = lift_refused s r c.args.out.now told (told ∙ stops) in
     record {
       answer = whole.0;
@@ -69,8 +69,7 @@ returns c =
     let s = c.args.table.now in
     let r = c.args.run.now in
     let go = laid_open s r c.lay_out_run.ensures.answer c.in_ok-events.was in
-    let own = fitted (lifting_of (net_of s) r) (length c.args.out.now) in
-    let whole = lift_went s r c.args.out.now _ (go (Ok 0)) (go own) c.lift_played.ensures.answer c.lift_played.ensures.after in
+    let whole = lift_went s r c.args.out.now _ (go (Ok 0)) (go (fitted (lifting_of (net_of s) r) (length c.args.out.now))) c.lift_played.ensures.answer c.lift_played.ensures.after in
     record {
       answer = whole.0;
       after = whole.1;

@@ -12,6 +12,7 @@ once_only-requires c =
     record {
       events_value = c.requires.within.all;
       used = c.requires.used;
+      once_len = refl;
     }
 
 pub returns-in-Some : goal.returns-in-Some
@@ -59,8 +60,7 @@ write_lifted-requires c =
 
 pub returns : goal.returns
 returns c =
-    let wrote = lift_written _ _ c.requires.walkable.plays _ _ c.walk-walked.ensures c.in_default.is _ c.own_markers-own.ensures in
     record {
       answer = lift_fits _ _ c.requires.walkable.plays _ _ c.walk-walked.ensures c.in_default.is _ (omega arith);
-      after = wrote _ _ c.settled_numbers.ensures c.settled_numbers-2.ensures c.requires.within.marked.limits _ _ c.write_lifted.ensures;
+      after = lift_written _ _ c.requires.walkable.plays _ _ c.walk-walked.ensures c.in_default.is _ c.own_markers-own.ensures _ _ c.settled_numbers.ensures c.settled_numbers-2.ensures c.requires.within.marked.limits _ _ c.write_lifted.ensures;
     }

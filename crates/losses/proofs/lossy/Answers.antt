@@ -43,6 +43,7 @@ once_only-requires c =
     record {
       events_value = events_are_all s c.in_ok-events.events judged;
       used = used s c.in_ok-events.events judged c.tally.new.counts c.tally.ensures;
+      once_len = refl;
     }
 
 pub tally-requires-2 : goal.tally-requires-2
