@@ -32,7 +32,7 @@ soonest None o = o
 soonest (Some k) o = some k
 
 -- the walk has taken k steps of the run
-pub record Along (n : Net) (r : List ℕ) (k : ℕ) (repeat : Perhaps ℕ) (slots : List Slot) (seen : List Bool) : Type 0 where
+pub record Along (n : Net) (r : List ℕ) (k : ℕ) (repeat : Perhaps ℕ) (slots : List Slot) (seen : List ℕ) : Type 0 where
   pub state : State
   pub upto : k ≤ length r
   pub rest : after n state (drop k r) ≡ after n (opening n) r
@@ -48,9 +48,9 @@ pub none_set : (b : ℕ) → first_at no_slots b ≡ none
 unfolding no_slots
 none_set b = ap first_of (replicate_at {A = Slot} 256 b None)
 
-pub along_start : (n : Net) (r : List ℕ) (slots : List Slot) (seen : List Bool) → T (runs n (begin n) r) → length slots ≡ 256
+pub along_start : (n : Net) (r : List ℕ) (slots : List Slot) (seen : List ℕ) → T (runs n (begin n) r) → length slots ≡ 256
     → ((b : ℕ) → b < 256 → first_at slots b ≡ marker (n.persistent b) (mem b n.start) at_start)
-    → seen ≡ replicate 256 false → Along n r 0 None slots seen
+    → seen ≡ replicate 256 0 → Along n r 0 None slots seen
 unfolding opening
 along_start n r slots seen t l f z =
     record {
@@ -60,10 +60,7 @@ along_start n r slots seen t l f z =
       plays = t;
       reached = reached_opening n;
       firsts = record { size = l; each = f };
-      seens = record {
-        size = ap length z ∙ length-replicate {A = Bool} 256 false;
-        each = λ e h. ap (λ (x : List Bool). get_or x e false) z ∙ replicate_at {A = Bool} 256 e false;
-      };
+      seens = record { size = ap length z ∙ length-replicate {A = ℕ} 256 0; each = λ e h. ap (λ (x : List ℕ). eqb (get_or x e 0) 1) z ∙ ap (λ (x : ℕ). eqb x 1) (replicate_at {A = ℕ} 256 e 0) };
       repeats = refl;
     }
 
@@ -93,7 +90,7 @@ module _ (n : Net) (k : ℕ) (s : State) (e : ℕ) (r : List ℕ) where
   unfolding repeated own_or_earliest
   repeated_later h = rw (h, repeated)
 
-module _ (n : Net) (r : List ℕ) (k : ℕ) (repeat : Perhaps ℕ) (slots : List Slot) (seen : List Bool) (a : Along n r k repeat slots seen)
+module _ (n : Net) (r : List ℕ) (k : ℕ) (repeat : Perhaps ℕ) (slots : List Slot) (seen : List ℕ) (a : Along n r k repeat slots seen)
     (h : k < length r) (e : ℕ) (q : e ≡ get_or r k 0) where
   abbrev s : State
   s = a.state
@@ -107,11 +104,11 @@ module _ (n : Net) (r : List ℕ) (k : ℕ) (repeat : Perhaps ℕ) (slots : List
   pub along_event : e < n.events
   along_event = ltb→lt e n.events (can_event n s.marking e can_fire)
 
-  occurred : e < 256 → (b : Bool) → get_or seen e false ≡ b → s.seen e ≡ b
+  occurred : e < 256 → (b : Bool) → eqb (get_or seen e 0) 1 ≡ b → s.seen e ≡ b
   occurred l b z = sym (a.seens.each e l) ∙ z
 
   -- what every step does to the state
-  stepped : (repeat' : Perhaps ℕ) (slots' : List Slot) (seen' : List Bool) → Tells (step n s e) slots' → Occurred (step n s e) seen'
+  stepped : (repeat' : Perhaps ℕ) (slots' : List Slot) (seen' : List ℕ) → Tells (step n s e) slots' → Occurred (step n s e) seen'
       → soonest repeat' (repeated n (own_or_earliest n) (k + 1) (step n s e) (drop (k + 1) r)) ≡ soonest repeat (repeated n (own_or_earliest n) k s (e ∷ drop (k + 1) r))
       → Along n r (k + 1) repeat' slots' seen'
   unfolding step after
@@ -128,23 +125,23 @@ module _ (n : Net) (r : List ℕ) (k : ℕ) (repeat : Perhaps ℕ) (slots : List
       }
 
   -- an event occurs for the first time
-  pub along_new : e < 256 → get_or seen e false ≡ false → (slots' : List Slot) → length slots' ≡ 256
+  pub along_new : e < 256 → (get_or seen e 0 ≡ 1 → ⊥) → (slots' : List Slot) → length slots' ≡ 256
       → ((b : ℕ) → b < 256 → first_at slots' b ≡ or_else (first_at slots b) (marker (n.persistent b) (mem b (n.postconditions e)) (by_event e)))
-      → Along n r (k + 1) repeat slots' (set seen e true)
+      → Along n r (k + 1) repeat slots' (set seen e 1)
   unfolding step
   along_new l z slots' w f =
-      stepped repeat slots' (set seen e true)
+      stepped repeat slots' (set seen e 1)
       (record { size = w; each = λ b g. f b g ∙ ap (λ (o : Option Marker). or_else o (marker (n.persistent b) (mem b (n.postconditions e)) (by_event e))) (a.firsts.each b g) })
-      (record { size = length-set seen e true ∙ a.seens.size; each = λ x g. go x g (ℕ_discrete x e) })
-      (ap (soonest repeat) (ap (λ (j : ℕ). repeated n (own_or_earliest n) j (step n s e) (drop (k + 1) r)) (add-one k) ∙ sym (repeated_later n k s e (drop (k + 1) r) (rw (occurred l false z, and-false)))))
+      (record { size = length-set seen e 1 ∙ a.seens.size; each = λ x g. go x g (ℕ_discrete x e) })
+      (ap (soonest repeat) (ap (λ (j : ℕ). repeated n (own_or_earliest n) j (step n s e) (drop (k + 1) r)) (add-one k) ∙ sym (repeated_later n k s e (drop (k + 1) r) (rw (occurred l false (ne_eqb (get_or seen e 0) 1 z), and-false)))))
     where
-      go : (x : ℕ) → x < 256 → Dec (x ≡ e) → get_or (set seen e true) x false ≡ (eqb x e || s.seen x)
-      go x g (yes y) = rw (y, get_or-set_same seen e true false (omega (arith, a.seens.size)), eq-eqb e e refl)
-      go x g (no y) = rw (get_or-set_other seen e x true false y, ne_eqb x e y) (a.seens.each x g)
+      go : (x : ℕ) → x < 256 → Dec (x ≡ e) → eqb (get_or (set seen e 1) x 0) 1 ≡ (eqb x e || s.seen x)
+      go x g (yes y) = rw (y, get_or-set_same seen e 1 0 (omega (arith, a.seens.size)), eq-eqb e e refl)
+      go x g (no y) = rw (get_or-set_other seen e x 1 0 y, ne_eqb x e y) (a.seens.each x g)
 
-  module _ (l : e < 256) (z : get_or seen e false ≡ true) where
+  module _ (l : e < 256) (z : get_or seen e 0 ≡ 1) where
     was : s.seen e ≡ true
-    was = occurred l true z
+    was = occurred l true (eq-eqb (get_or seen e 0) 1 z)
 
     same_firsts : Tells (step n s e) slots
     unfolding step
@@ -176,7 +173,7 @@ module _ (n : Net) (r : List ℕ) (k : ℕ) (repeat : Perhaps ℕ) (slots : List
 
 -- ---- the end
 
-pub along_end : (n : Net) (r : List ℕ) (k : ℕ) (repeat : Perhaps ℕ) (slots : List Slot) (seen : List Bool)
+pub along_end : (n : Net) (r : List ℕ) (k : ℕ) (repeat : Perhaps ℕ) (slots : List Slot) (seen : List ℕ)
     → Along n r k repeat slots seen → length r ≤ k → (w : Walked) → w.repeat ≡ repeat → w.firsts.slots ≡ slots → Walks n r w seen
 unfolding after repeated
 along_end n r k repeat slots seen a h w x y =

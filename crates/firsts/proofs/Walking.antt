@@ -78,7 +78,7 @@ module _ (s : List ℕ) (events : ℕ) (j : judge_of s ≡ Ok events) where
 -- ---- the step that a walk is at
 
 module _ (s : List ℕ) (events : ℕ) (offsets r : List ℕ) (w : Walkable s events offsets r) (k : ℕ) (repeat : Perhaps ℕ)
-    (slots : List Slot) (seen : List Bool) (a : Along (net_of s) r k repeat slots seen) (h : k < length r) where
+    (slots : List Slot) (seen : List ℕ) (a : Along (net_of s) r k repeat slots seen) (h : k < length r) where
   pub step_event : get_or r k 0 < (net_of s).events
   step_event = along_event (net_of s) r k repeat slots seen a h (get_or r k 0) refl
 

@@ -1,5 +1,5 @@
 -- What a walk along a run needs, and what it tells of the state that the run ends in.
-use Rattle.std.specs.Prelude.{ℕ, ◌<◌, ◌≡◌, Bool, false, List, T, length, get_or, Ok}
+use Rattle.std.specs.Prelude.{ℕ, ◌<◌, ◌≡◌, List, T, eqb, length, get_or, Ok}
 use Rattle.model.specs.Net.{Net, begin}
 use Rattle.model.specs.Runs.{runs, State, opening, after}
 use Rattle.model.specs.Across.{own_or_earliest, repeated}
@@ -20,14 +20,14 @@ pub record Tells (t : State) (slots : List Slot) : Type 0 where
   pub size : length slots ≡ 256
   pub each : (b : ℕ) → b < 256 → first_at slots b ≡ t.first b
 
--- It is told of each event whether it has occurred (01, Runs across).
-pub record Occurred (t : State) (seen : List Bool) : Type 0 where
+-- Bytes tell which events have occurred, a byte of 1 for each that has (01, Runs across).
+pub record Occurred (t : State) (seen : List ℕ) : Type 0 where
   pub size : length seen ≡ 256
-  pub each : (e : ℕ) → e < 256 → get_or seen e false ≡ t.seen e
+  pub each : (e : ℕ) → e < 256 → eqb (get_or seen e 0) 1 ≡ t.seen e
 
 -- What a walk along a run tells: the first markers at its end, the events that occurred, and the first repeat (01, Runs across and
 -- Refusal numbers; 02, No. 3).
-pub record Walks (n : Net) (r : List ℕ) (w : Walked) (seen : List Bool) : Type 0 where
+pub record Walks (n : Net) (r : List ℕ) (w : Walked) (seen : List ℕ) : Type 0 where
   pub firsts : Tells (after n (opening n) r) w.firsts.slots
   pub seens : Occurred (after n (opening n) r) seen
   pub repeat : repeat_of w.repeat ≡ repeated n (own_or_earliest n) 0 (opening n) r

@@ -1,7 +1,7 @@
 // A run of a table looked at as a whole: what first marked each persistent condition, which events occurred, and the first repeat.
 #![tactic(auto)]
 
-ghost use Rattle.std.specs.Prelude.{◌≡◌, ◌<◌, false, replicate};
+ghost use Rattle.std.specs.Prelude.{◌≡◌, ◌<◌, replicate};
 ghost use Rattle.words.specs.Words.{words};
 ghost use Rattle.table.specs.Decoded.{net_of};
 ghost use Rattle.repeats.specs.Repeats.{Once};
@@ -56,11 +56,11 @@ pub fn walk<'a>(
     offsets: &'a [usize],
     once: &'a [u8],
     run: &'a [u16],
-    seen: &mut [bool; 256],
+    seen: &mut [u8],
 ) -> Walked
     requires walkable { Walkable table.now events offsets.now run.now }
     requires once { Once (net_of table.now) once.now }
-    requires seen_value { seen.old ≡ replicate 256 false }
+    requires seen_value { seen.old ≡ replicate 256 0 }
     ensures { Walks (net_of table.now) run.now result seen.new }
 {
     let start = records::marking_at(table, table::offset(table, events as u16));
@@ -69,12 +69,12 @@ pub fn walk<'a>(
     let mut repeat = None;
     for (k, event) in run.iter().enumerate() {
         let e = *event as usize;
-        if seen[e] {
+        if seen[e] == 1 {
             if once[e] == 1 {
                 repeat = repeat.or(Some(k));
             }
         } else {
-            seen[e] = true;
+            seen[e] = 1;
             let post = tally::list_at(table, offsets[e], true);
             firsts = marked(firsts, table, post, Marker::ByEvent(TableEvent(*event)));
         }

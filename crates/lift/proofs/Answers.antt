@@ -2,7 +2,6 @@
 use Prim.Native.Nat.{ℕ, suc, ◌≤◌, ◌<◌}
 use native.Mathlib.Omega.{arith}
 use mathlib.Core.Path.{◌≡◌, refl, sym, ap, ◌∙◌}
-use mathlib.Core.Bool.{Bool}
 use mathlib.Core.Option.{Option, none}
 use mathlib.Core.List.{List, [], ◌∷◌, ◌++◌}
 use lib.Dec.{T}
@@ -125,7 +124,7 @@ module _ (n : Net) (r : List ℕ) (t : T (runs n (begin n) r)) where
         again = two_bytes later ms d;
       }
 
-  module _ (w : Walked) (seen : List Bool) (told : Walks n r w seen) where
+  module _ (w : Walked) (seen : List ℕ) (told : Walks n r w seen) where
     -- 15
     pub lift_again : (room k : ℕ) → w.repeat ≡ Some k → refused_at 15 k ≡ fitted (lifting_of n r) room
     unfolding lifting fitted opening

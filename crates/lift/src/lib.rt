@@ -44,7 +44,7 @@ fn lift_played<'a>(
 {
     let mut once = [0u8; 256];
     repeats::once_only(table, events, users, &mut once);
-    let mut seen = [false; 256];
+    let mut seen = [0u8; 256];
     let walked = firsts::walk(table, events, offsets, &once, run, &mut seen);
     if let Some(k) = walked.repeat {
         return refusal::refused(15, k);

@@ -80,21 +80,23 @@ fn unfolded(rt: &impl Print, table: &[u8], skip: u8, conditions: usize) -> io::R
 
 // The line of one net.
 fn net(rt: &impl Print, letter: u8, skip: u8, table: &[u8]) -> io::Result<()> {
-    print!(rt; "net {}: ", letter as char)?;
+    print!(rt; "net ")?;
+    rt.write_all(&[letter])?;
+    print!(rt; ": ")?;
     match unfolding::condition_count(table) {
         Ok(n) => unfolded(rt, table, skip, n),
         Err(refusal) => println!(rt; "{refusal}"),
     }
 }
 
-// The nets one after the other.
+// The nets one after the other; what is cut off at the end stands for zeros.
 fn all(rt: &impl Print, nets: &[u8]) -> io::Result<()> {
     let mut left = nets;
-    while let [letter, skip, low, high, rest @ ..] = left {
-        let length = u16::from_le_bytes([*low, *high]) as usize;
-        let (table, rest) = rest.split_at(length.min(rest.len()));
-        net(rt, *letter, *skip, table)?;
-        left = rest;
+    while !left.is_empty() {
+        let length = words::word(left, 2) as usize;
+        let table = records::part_of(left, 4, length);
+        net(rt, words::byte(left, 0), words::byte(left, 1), table)?;
+        left = left.split_at(left.len().min(4 + length)).1;
     }
     Ok(())
 }
