@@ -6,21 +6,11 @@ use parts::Persistence;
 use refusal::{Refusal, TableCondition, TableEvent};
 use std::io;
 
-// One number after a space.
-fn number(rt: &impl Print, value: usize) -> io::Result<()> {
-    rt.write_all(b" ")?;
-    rt.print(value as u64)
-}
-
 // One answer to the end of its line: what it tells, or the refusal.
 fn tell(rt: &impl Print, answer: Result<usize, Refusal>) -> io::Result<()> {
-    rt.write_all(b": ")?;
+    print!(rt; ": ")?;
     match answer {
-        Ok(value) => {
-            rt.write_all(b"fine")?;
-            number(rt, value)?;
-            rt.write_all(b"\n")
-        }
+        Ok(value) => println!(rt; "fine {value}"),
         Err(refusal) => files::refuse(rt, Err(refusal)),
     }
 }
@@ -29,8 +19,7 @@ fn tell(rt: &impl Print, answer: Result<usize, Refusal>) -> io::Result<()> {
 fn walk(rt: &impl Print, table: &[u8]) -> io::Result<()> {
     let mut at: usize = 0;
     for _ in 0..260 {
-        rt.write_all(b"record at")?;
-        number(rt, at)?;
+        print!(rt; "record at {at}")?;
         tell(rt, reader::record_at(table, at))?;
         let next = reader::next_at(table, at);
         if next == at {
@@ -43,46 +32,34 @@ fn walk(rt: &impl Print, table: &[u8]) -> io::Result<()> {
 
 // The second record, as a reader that is moved once comes to it.
 fn second(rt: &impl Print, table: &[u8]) -> io::Result<()> {
-    rt.write_all(b"second at")?;
-    number(rt, reader::second_place(table))?;
+    print!(rt; "second at {}", reader::second_place(table))?;
     tell(rt, reader::second(table))
-}
-
-// One condition of a list.
-fn condition_of(rt: &impl Print, part: &[u8], k: usize) -> io::Result<()> {
-    let b = parts::condition_in(part, k);
-    number(rt, b.0 as usize)
 }
 
 // The conditions of a shown part, and after a bar what is told past its end.
 fn list(rt: &impl Print, part: &[u8]) -> io::Result<()> {
     let count = part.len() / 2;
     for k in 0..count {
-        condition_of(rt, part, k)?;
+        print!(rt; " {}", parts::condition_in(part, k).0)?;
     }
-    rt.write_all(b" |")?;
-    condition_of(rt, part, count)?;
-    rt.write_all(b"\n")
+    println!(rt; " | {}", parts::condition_in(part, count).0)
 }
 
 // An event that is asked for, and its two lists as parts of the table.
 fn event(rt: &impl Print, table: &[u8], e: u16) -> io::Result<()> {
-    rt.write_all(b"event")?;
-    number(rt, e as usize)?;
+    print!(rt; "event {e}")?;
     tell(rt, parts::asked(table, TableEvent(e)))?;
-    rt.write_all(b"pre")?;
+    print!(rt; "pre")?;
     list(rt, parts::pre_part(table, TableEvent(e)))?;
-    rt.write_all(b"post")?;
+    print!(rt; "post")?;
     list(rt, parts::post_part(table, TableEvent(e)))
 }
 
 // The events up to one past the last, and the highest number.
 fn events(rt: &impl Print, table: &[u8]) -> io::Result<()> {
     let count = refusal::value_of(table::event_count(table));
-    for e in 0..257 {
-        if (e as usize) <= count {
-            event(rt, table, e)?;
-        }
+    for e in 0..=count.min(256) as u16 {
+        event(rt, table, e)?;
     }
     event(rt, table, 65535)
 }
@@ -90,16 +67,15 @@ fn events(rt: &impl Print, table: &[u8]) -> io::Result<()> {
 // Whether a condition is persistent, to the end of its line.
 fn kind(rt: &impl Print, answer: Result<Persistence, Refusal>) -> io::Result<()> {
     match answer {
-        Ok(Persistence::Ordinary) => rt.write_all(b"ordinary\n"),
-        Ok(Persistence::Persistent) => rt.write_all(b"persistent\n"),
+        Ok(Persistence::Ordinary) => println!(rt; "ordinary"),
+        Ok(Persistence::Persistent) => println!(rt; "persistent"),
         Err(refusal) => files::refuse(rt, Err(refusal)),
     }
 }
 
 // A condition that is asked for, and whether it is persistent.
 fn condition(rt: &impl Print, table: &[u8], b: u16) -> io::Result<()> {
-    rt.write_all(b"condition")?;
-    number(rt, b as usize)?;
+    print!(rt; "condition {b}")?;
     tell(rt, parts::asked_condition(table, TableCondition(b)))?;
     kind(rt, parts::persistent(table, TableCondition(b)))
 }
@@ -107,20 +83,10 @@ fn condition(rt: &impl Print, table: &[u8], b: u16) -> io::Result<()> {
 // The conditions up to one past the last, and the highest number.
 fn conditions(rt: &impl Print, table: &[u8]) -> io::Result<()> {
     let count = refusal::value_of(table::condition_count(table));
-    for b in 0..257 {
-        if (b as usize) <= count {
-            condition(rt, table, b)?;
-        }
+    for b in 0..=count.min(256) as u16 {
+        condition(rt, table, b)?;
     }
     condition(rt, table, 65535)
-}
-
-// The bytes of lent memory.
-fn bytes(rt: &impl Print, lent: &[u8]) -> io::Result<()> {
-    for byte in lent {
-        number(rt, *byte as usize)?;
-    }
-    rt.write_all(b"\n")
 }
 
 // A run replayed from a lent marking, and its end in 200 lent bytes; 9 stands where nothing was written.
@@ -131,10 +97,13 @@ fn replayed<'a>(
     run: &'a [u16],
 ) -> io::Result<()> {
     let mut end = [9u8; 200];
-    rt.write_all(b"replay_from")?;
+    print!(rt; "replay_from")?;
     tell(rt, replay::replay_from(table, marking, run, &mut end))?;
-    rt.write_all(b"end")?;
-    bytes(rt, &end)
+    print!(rt; "end")?;
+    for byte in end {
+        print!(rt; " {byte}")?;
+    }
+    println!(rt; "")
 }
 
 // The same of a run's file, or its refusal.
@@ -148,7 +117,7 @@ fn replayed_file<'a>(
     match runs::read_run(run, &mut steps) {
         Ok(count) => replayed(rt, table, marking, &steps[0..count]),
         Err(refusal) => {
-            rt.write_all(b"run")?;
+            print!(rt; "run")?;
             tell(rt, Err(refusal))
         }
     }
@@ -159,7 +128,7 @@ fn show(rt: &impl Print, table: &[u8]) -> io::Result<()> {
     walk(rt, table)?;
     second(rt, table)?;
     events(rt, table)?;
-    rt.write_all(b"start")?;
+    print!(rt; "start")?;
     list(rt, parts::marking_part(table))?;
     conditions(rt, table)
 }
