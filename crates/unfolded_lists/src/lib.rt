@@ -17,10 +17,8 @@ fn put_range(first: u32, size: u32, at: usize, out: &mut [u16])
     requires size_in_bounds { at + size ≤ length out.old }
     ensures { out.new ≡ sets out.old at (count first size) }
 {
-    let mut i: u32 = 0;
-    while i < size {
+    for i in 0..size {
         out[at + i as usize] = (first + i) as u16;
-        i = i + 1;
     }
 }
 
@@ -30,12 +28,10 @@ fn put_ranges<'a>(starts: &'a [u32], sizes: &'a [u32], ranges: usize, out: &mut 
     ensures { out.new ≡ sets out.old 0 (ranged starts.now sizes.now ranges) }
 {
     let mut at: usize = 0;
-    let mut i: usize = 0;
-    while i < ranges {
+    for i in 0..ranges {
         let size = sizes[i];
         put_range(starts[i], size, at, out);
         at = at + size as usize;
-        i = i + 1;
     }
 }
 

@@ -7,28 +7,29 @@ use Rattle.unfolded_lists.proofs.put_range.Goals as goal
 
 pub loop-i-init : goal.loop-i-init
 loop-i-init c =
-    (omega arith, refl, put_start c.args.out.now c.args.at c.args.first c.args.size)
+    (refl, put_start c.args.out.now c.args.at c.args.first c.args.size)
 
 pub overflow_add-out : goal.overflow_add-out
 overflow_add-out c =
-    omega (arith, c.requires.small c.loop-i.i c.loop-i-test.true)
+    omega (arith, c.requires.small c.loop-i.i (omega arith))
 
 pub overflow_cast-out : goal.overflow_cast-out
 overflow_cast-out c =
-    omega (arith, c.requires.small c.loop-i.i c.loop-i-test.true)
+    omega (arith, c.requires.small c.loop-i.i (omega arith))
 
 pub overflow_cast-out-in-loop-i : goal.overflow_cast-out-in-loop-i
 overflow_cast-out-in-loop-i c =
-    omega (arith, c.requires.small c.loop-i.i c.loop-i-test.true)
+    omega (arith, c.requires.small c.loop-i.i (omega arith))
 
 pub overflow_add-out-in-loop-i : goal.overflow_add-out-in-loop-i
 overflow_add-out-in-loop-i c =
-    omega (arith, c.requires.small c.loop-i.i c.loop-i-test.true)
+    omega (arith, c.requires.small c.loop-i.i (omega arith))
 
 pub loop-i-preserved : goal.loop-i-preserved
 loop-i-preserved c =
-    (omega arith, simp length-set c.loop-i.invariant.1, sym (put_on c.loop-i.out c.args.at c.args.first c.args.size c.loop-i.i c.loop-i-test.true) ∙ c.loop-i.invariant.2)
+    let on = put_on c.loop-i.out c.args.at c.args.first c.args.size c.loop-i.i (omega arith) in
+    (simp length-set c.loop-i.invariant.0, sym on ∙ c.loop-i.invariant.1)
 
 pub returns : goal.returns
 returns c =
-    sym (put_end c.loop-i.out c.args.at c.args.first c.args.size c.loop-i.i c.loop-i-test.false) ∙ c.loop-i.invariant.2
+    sym (put_end c.loop-i.out c.args.at c.args.first c.args.size c.loop-i.i (omega arith)) ∙ c.loop-i.invariant.1

@@ -1,13 +1,12 @@
--- What each turn of a loop in `unfolded_lists::put_range` keeps, and what falls.
+-- What each turn of a loop in `unfolded_lists::put_range` keeps.
 use mathlib.Core.Path.{◌≡◌}
-use Prim.Native.Nat.{◌+◌, ◌-◌, ◌≤◌}
+use Prim.Native.Nat.{◌+◌, ◌-◌}
 use lib.ListN.{length}
 use lib.Seq.{sets}
 use Rattle.lists.specs.Lists.{count}
 use Rattle.unfolded_lists.proofs.put_range.Given as goal
 
 abbrev pub invariant-loop-i : goal.invariant-loop-i
-invariant-loop-i l = (l.i ≤ l.size) × (length l.out ≡ length l.initial.out) × (sets l.out (l.at + l.i) (count (l.first + l.i) (l.size - l.i)) ≡ sets l.initial.out l.at (count l.first l.size))
-
-abbrev pub decreases-loop-i : goal.decreases-loop-i
-decreases-loop-i l = l.size - l.i
+invariant-loop-i l =
+    (length l.out ≡ length l.initial.out)
+    × (sets l.out (l.at + l.i) (count (l.first + l.i) (l.size - l.i)) ≡ sets l.initial.out l.at (count l.first l.size))
