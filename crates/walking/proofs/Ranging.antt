@@ -3,10 +3,10 @@ use mathlib.Core.Path.{◌≡◌, refl, sym, ◌∙◌, ap}
 use mathlib.Core.Bool.{Bool, true, false, cond}
 use mathlib.Core.Option.{Option, none, some}
 use mathlib.Core.List.{List, [], ◌∷◌, ◌++◌}
-use Prim.Native.Nat.{ℕ, suc, ◌+◌, ◌-◌, ◌≤◌, ◌<◌}
+use Prim.Native.Nat.{ℕ, zero, suc, ◌+◌, ◌-◌, ◌≤◌, ◌<◌}
 use lib.Dec.{ltb, ltb→lt}
 use lib.ListN.{get_or, set}
-use native.Mathlib.Nat.{add-zero}
+use native.Mathlib.Numerals.{add-one}
 use native.Mathlib.Omega.{arith}
 use borrow.Author.Tests.{lt-ltb}
 use Rattle.lists.specs.Lists.{mem, failing, count}
@@ -16,7 +16,7 @@ use Rattle.refusal.specs.declared.UnfoldedCondition.{UnfoldedCondition}
 use Rattle.segments.specs.Ranges.{ranged_from}
 use Rattle.segments.proofs.Ranged.{ranged_on, ranged_end}
 use Rattle.step.specs.Steps.{set_all}
-use Rattle.walking.specs.Steps.{Failing, failing_of}
+use Rattle.walking.specs.Steps.{Failing, failing_of, BelowIn}
 use Rattle.std.specs.Prelude.{None, Some}
 
 -- ---- a number in a range
@@ -43,21 +43,26 @@ module _ (starts sizes : List ℕ) (i k : ℕ) where
 
 -- ---- the first that fails
 
-module _ (f : ℕ → Bool) (first size d : ℕ) where
-  left : d < size → size - d ≡ suc (size - (d + 1))
+module _ (f : ℕ → Bool) (k end : ℕ) where
+  left : k < end → end - k ≡ suc (end - (k + 1))
   left h = omega arith
 
-  pub failing_here : d < size → f (first + d) ≡ false → failing f (count (first + d) (size - d)) ≡ some (first + d)
+  pub failing_here : k < end → f k ≡ false → failing f (count k (end - k)) ≡ some k
   failing_here h e = rw (left h, e)
 
-  pub failing_next : d < size → f (first + d) ≡ true → failing f (count (first + d) (size - d)) ≡ failing f (count (first + (d + 1)) (size - (d + 1)))
-  failing_next h e = let z : first + (d + 1) ≡ suc (first + d) = omega arith in rw (left h, e, z)
+  pub failing_next : k < end → f k ≡ true → failing f (count k (end - k)) ≡ failing f (count (k + 1) (end - (k + 1)))
+  failing_next h e = rw (left h, e, add-one)
 
-  pub failing_end : size ≤ d → failing f (count (first + d) (size - d)) ≡ none
-  failing_end h = let z : size - d ≡ 0 = omega arith in rw z
+  pub failing_end : end ≤ k → failing f (count k (end - k)) ≡ none
+  failing_end h = let z : end - k ≡ 0 = omega arith in rw z
 
-pub count_whole : (first size : ℕ) → count (first + 0) (size - 0) ≡ count first size
-count_whole first size = let z : size - 0 ≡ size = omega arith in rw (add-zero, z)
+-- the end of a range is below what its beginning and the bound of its numbers are below
+pub range_fits : (first size most limit : ℕ) → BelowIn first size most → first < limit → most < limit → first + size < limit
+range_fits first zero most limit f h l = omega arith
+range_fits first (suc d) most limit f h l = omega (arith, f d (omega arith))
+
+pub count_whole : (first size : ℕ) → count first (first + size - first) ≡ count first size
+count_whole first size = let z : first + size - first ≡ size = omega arith in rw z
 
 failing_append : (f : ℕ → Bool) (xs ys : List ℕ) → failing f xs ≡ none → failing f (xs ++ ys) ≡ failing f ys
 failing_append f [] ys e = refl
@@ -95,14 +100,14 @@ module _ (f : ℕ → Bool) (starts sizes : List ℕ) (i k : ℕ) (h : i < k) (f
 
 -- ---- bytes set
 
-module _ (v first size d : ℕ) (l : List ℕ) where
-  pub set_next : d < size → set_all [] v (count (first + d) (size - d)) l ≡ set_all [] v (count (first + (d + 1)) (size - (d + 1))) (set l (first + d) v)
+module _ (v k end : ℕ) (l : List ℕ) where
+  pub set_next : k < end → set_all [] v (count k (end - k)) l ≡ set_all [] v (count (k + 1) (end - (k + 1))) (set l k v)
   unfolding set_all
-  set_next h = let y : size - d ≡ suc (size - (d + 1)) = omega arith in let z : first + (d + 1) ≡ suc (first + d) = omega arith in rw (y, z)
+  set_next h = let z : end - k ≡ suc (end - (k + 1)) = omega arith in rw (z, add-one)
 
-  pub set_done : size ≤ d → set_all [] v (count (first + d) (size - d)) l ≡ l
+  pub set_done : end ≤ k → set_all [] v (count k (end - k)) l ≡ l
   unfolding set_all
-  set_done h = let z : size - d ≡ 0 = omega arith in rw z
+  set_done h = let z : end - k ≡ 0 = omega arith in rw z
 
 set_append : (v : ℕ) (xs ys l : List ℕ) → set_all [] v (xs ++ ys) l ≡ set_all [] v ys (set_all [] v xs l)
 unfolding set_all

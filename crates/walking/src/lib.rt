@@ -36,12 +36,10 @@ fn in_ranges<'a>(starts: &'a [u32], sizes: &'a [u32], ranges: usize, k: u32) -> 
     requires { Kept starts.now sizes.now ranges }
     ensures { result ≡ mem k (ranged starts.now sizes.now ranges) }
 {
-    let mut i: usize = 0;
-    while i < ranges {
+    for i in 0..ranges {
         if in_range(starts[i], sizes[i], k) {
             return true;
         }
-        i = i + 1;
     }
     false
 }
@@ -105,12 +103,8 @@ fn first_in<'a>(
     requires below_in { BelowIn first size (basic (net_of table.now)).conditions }
     ensures { result ≡ failing_of (failing (passes_of contact (marking state.now) (ranged starts.now sizes.now ranges) (basic (net_of table.now)).old) (count first size)) }
 {
-    let mut d: u32 = 0;
-    while d < size {
-        let k = first + d;
-        if passes(table, bases, contact, state, starts, sizes, ranges, k) {
-            d = d + 1;
-        } else {
+    for k in first..first + size {
+        if !passes(table, bases, contact, state, starts, sizes, ranges, k) {
             return Some(UnfoldedCondition(k as u16));
         }
     }
@@ -135,14 +129,12 @@ fn first_failing<'a>(
     requires below_2 { Below firsts.now widths.now all (basic (net_of table.now)).conditions }
     ensures { result ≡ failing_of (failing (passes_of contact (marking state.now) (ranged starts.now sizes.now ranges) (basic (net_of table.now)).old) (ranged firsts.now widths.now all)) }
 {
-    let mut i: usize = 0;
-    while i < all {
+    for i in 0..all {
         if let Some(b) = first_in(
             table, bases, contact, state, starts, sizes, ranges, firsts[i], widths[i],
         ) {
             return Some(b);
         }
-        i = i + 1;
     }
     None
 }
@@ -185,11 +177,8 @@ fn set_range(first: u32, size: u32, value: u8, state: &mut [u8])
     requires state_len_bound { length state.old ≤ 65535 }
     ensures { state.new ≡ set_all [] value (count first size) state.old }
 {
-    let mut d: u32 = 0;
-    while d < size {
-        let k = (first + d) as usize;
-        state[k] = value;
-        d = d + 1;
+    for k in first..first + size {
+        state[k as usize] = value;
     }
 }
 
@@ -205,9 +194,7 @@ pub fn set_ranges<'a>(
     requires state_len_bound { length state.old ≤ 65535 }
     ensures { state.new ≡ set_all [] value (ranged starts.now sizes.now ranges) state.old }
 {
-    let mut i: usize = 0;
-    while i < ranges {
+    for i in 0..ranges {
         set_range(starts[i], sizes[i], value, state);
-        i = i + 1;
     }
 }

@@ -1,6 +1,7 @@
 -- `walking::first_failing` meets its contract.
 use native.Mathlib.Omega.{arith}
 use mathlib.Core.Path.{◌∙◌, sym, ap}
+use mathlib.Core.Bool.{Bool}
 use mathlib.Core.List.{List}
 use Prim.Native.Nat.{ℕ, ◌+◌}
 use lib.ListN.{get_or}
@@ -16,8 +17,9 @@ use Rattle.walking.proofs.first_failing.Goals as goal
 
 pub loop-i-init : goal.loop-i-init
 loop-i-init c =
+    let test : ℕ → Bool = passes_of c.args.contact (marking c.args.state.now) (ranged c.args.starts.now c.args.sizes.now c.args.ranges) (basic (net_of c.args.table.now)).old in
     let w = ranged_whole c.args.firsts.now c.args.widths.now c.args.all in
-    (omega arith, λ b t. c.requires.below_2.each b (rw w at t), ap (λ (l : List ℕ). failing (passes_of c.args.contact (marking c.args.state.now) (ranged c.args.starts.now c.args.sizes.now c.args.ranges) (basic (net_of c.args.table.now)).old) l) w)
+    (λ b t. c.requires.below_2.each b (rw w at t), ap (λ (l : List ℕ). failing test l) w)
 
 pub bounds-firsts-i : goal.bounds-firsts-i
 bounds-firsts-i c =
@@ -29,20 +31,28 @@ bounds-widths-i c =
 
 pub first_in-requires : goal.first_in-requires
 first_in-requires c =
+    let there = first_there c.args.firsts.now c.args.widths.now c.loop-i.i c.args.all (omega arith) in
     record {
       summed = c.requires.summed;
       below = c.requires.below;
-      below_in = λ d l. c.loop-i.invariant.1 (get_or c.args.firsts.now c.loop-i.i 0 + d) (first_there c.args.firsts.now c.args.widths.now c.loop-i.i c.args.all c.loop-i-test.true d l);
+      below_in = λ d l. c.loop-i.invariant.0 (get_or c.args.firsts.now c.loop-i.i 0 + d) (there d l);
     }
 
 pub returns-in-Some : goal.returns-in-Some
 returns-in-Some c =
-    sym c.in-Some.is ∙ one_found (passes_of c.args.contact (marking c.args.state.now) (ranged c.args.starts.now c.args.sizes.now c.args.ranges) (basic (net_of c.args.table.now)).old) c.args.firsts.now c.args.widths.now c.loop-i.i c.args.all c.loop-i-test.true c.first_in.result c.first_in.ensures c.in-Some.is ∙ ap failing_of c.loop-i.invariant.2
+    let test : ℕ → Bool = passes_of c.args.contact (marking c.args.state.now) (ranged c.args.starts.now c.args.sizes.now c.args.ranges) (basic (net_of c.args.table.now)).old in
+    let one = one_found test c.args.firsts.now c.args.widths.now c.loop-i.i c.args.all (omega arith) c.first_in.result c.first_in.ensures c.in-Some.is in
+    sym c.in-Some.is ∙ one ∙ ap failing_of c.loop-i.invariant.1
 
 pub loop-i-preserved : goal.loop-i-preserved
 loop-i-preserved c =
-    (omega arith, λ b t. c.loop-i.invariant.1 b (others_there c.args.firsts.now c.args.widths.now c.loop-i.i c.args.all c.loop-i-test.true b t), sym (none_found (passes_of c.args.contact (marking c.args.state.now) (ranged c.args.starts.now c.args.sizes.now c.args.ranges) (basic (net_of c.args.table.now)).old) c.args.firsts.now c.args.widths.now c.loop-i.i c.args.all c.loop-i-test.true c.first_in.result c.first_in.ensures c.in_default.is) ∙ c.loop-i.invariant.2)
+    let test : ℕ → Bool = passes_of c.args.contact (marking c.args.state.now) (ranged c.args.starts.now c.args.sizes.now c.args.ranges) (basic (net_of c.args.table.now)).old in
+    let none = none_found test c.args.firsts.now c.args.widths.now c.loop-i.i c.args.all (omega arith) c.first_in.result c.first_in.ensures c.in_default.is in
+    let others = others_there c.args.firsts.now c.args.widths.now c.loop-i.i c.args.all (omega arith) in
+    (λ b t. c.loop-i.invariant.0 b (others b t), sym none ∙ c.loop-i.invariant.1)
 
 pub returns : goal.returns
 returns c =
-    sym (ap failing_of (sym c.loop-i.invariant.2 ∙ ap (λ (l : List ℕ). failing (passes_of c.args.contact (marking c.args.state.now) (ranged c.args.starts.now c.args.sizes.now c.args.ranges) (basic (net_of c.args.table.now)).old) l) (ranged_end c.args.firsts.now c.args.widths.now c.loop-i.i c.args.all c.loop-i-test.false)))
+    let test : ℕ → Bool = passes_of c.args.contact (marking c.args.state.now) (ranged c.args.starts.now c.args.sizes.now c.args.ranges) (basic (net_of c.args.table.now)).old in
+    let end = ranged_end c.args.firsts.now c.args.widths.now c.loop-i.i c.args.all (omega arith) in
+    sym (ap failing_of (sym c.loop-i.invariant.1 ∙ ap (λ (l : List ℕ). failing test l) end))

@@ -1,6 +1,6 @@
--- What each turn of a loop in `walking::first_failing` keeps, and what falls.
+-- What each turn of a loop in `walking::first_failing` keeps.
 use mathlib.Core.Path.{◌≡◌}
-use Prim.Native.Nat.{ℕ, ◌-◌, ◌≤◌, ◌<◌}
+use Prim.Native.Nat.{ℕ, ◌-◌, ◌<◌}
 use lib.Dec.{T}
 use Rattle.lists.specs.Lists.{mem, failing}
 use Rattle.model.specs.Unfolding.{basic}
@@ -11,7 +11,7 @@ use Rattle.walking.specs.Steps.{passes_of}
 use Rattle.walking.proofs.first_failing.Given as goal
 
 abbrev pub invariant-loop-i : goal.invariant-loop-i
-invariant-loop-i l = (l.i ≤ l.all) × ((b : ℕ) → T (mem b (ranged_from l.firsts l.widths l.i (l.all - l.i))) → b < (basic (net_of l.table)).conditions) × (failing (passes_of l.contact (marking l.state) (ranged l.starts l.sizes l.ranges) (basic (net_of l.table)).old) (ranged_from l.firsts l.widths l.i (l.all - l.i)) ≡ failing (passes_of l.contact (marking l.state) (ranged l.starts l.sizes l.ranges) (basic (net_of l.table)).old) (ranged l.firsts l.widths l.all))
-
-abbrev pub decreases-loop-i : goal.decreases-loop-i
-decreases-loop-i l = l.all - l.i
+invariant-loop-i l =
+    ((b : ℕ) → T (mem b (ranged_from l.firsts l.widths l.i (l.all - l.i))) → b < (basic (net_of l.table)).conditions)
+    × (failing (passes_of l.contact (marking l.state) (ranged l.starts l.sizes l.ranges) (basic (net_of l.table)).old) (ranged_from l.firsts l.widths l.i (l.all - l.i))
+    ≡ failing (passes_of l.contact (marking l.state) (ranged l.starts l.sizes l.ranges) (basic (net_of l.table)).old) (ranged l.firsts l.widths l.all))

@@ -1,6 +1,6 @@
--- What each turn of a loop in `walking::first_in` keeps, and what falls.
+-- What each turn of a loop in `walking::first_in` keeps.
 use mathlib.Core.Path.{◌≡◌}
-use Prim.Native.Nat.{◌+◌, ◌-◌, ◌≤◌}
+use Prim.Native.Nat.{◌+◌, ◌-◌}
 use Rattle.lists.specs.Lists.{failing, count}
 use Rattle.model.specs.Unfolding.{basic}
 use Rattle.model.specs.Lent.{marking}
@@ -9,8 +9,7 @@ use Rattle.segments.specs.Ranges.{ranged}
 use Rattle.walking.specs.Steps.{passes_of}
 use Rattle.walking.proofs.first_in.Given as goal
 
-abbrev pub invariant-loop-d : goal.invariant-loop-d
-invariant-loop-d l = (l.d ≤ l.size) × (failing (passes_of l.contact (marking l.state) (ranged l.starts l.sizes l.ranges) (basic (net_of l.table)).old) (count (l.first + l.d) (l.size - l.d)) ≡ failing (passes_of l.contact (marking l.state) (ranged l.starts l.sizes l.ranges) (basic (net_of l.table)).old) (count l.first l.size))
-
-abbrev pub decreases-loop-d : goal.decreases-loop-d
-decreases-loop-d l = l.size - l.d
+abbrev pub invariant-loop-k : goal.invariant-loop-k
+invariant-loop-k l =
+    failing (passes_of l.contact (marking l.state) (ranged l.starts l.sizes l.ranges) (basic (net_of l.table)).old) (count l.k (l.first + l.size - l.k))
+    ≡ failing (passes_of l.contact (marking l.state) (ranged l.starts l.sizes l.ranges) (basic (net_of l.table)).old) (count l.first l.size)

@@ -10,7 +10,7 @@ use Rattle.walking.proofs.in_ranges.Goals as goal
 
 pub loop-i-init : goal.loop-i-init
 loop-i-init c =
-    (omega arith, ap (λ (l : List ℕ). mem c.args.k l) (ranged_whole c.args.starts.now c.args.sizes.now c.args.ranges))
+    ap (λ (l : List ℕ). mem c.args.k l) (ranged_whole c.args.starts.now c.args.sizes.now c.args.ranges)
 
 pub bounds-starts-i : goal.bounds-starts-i
 bounds-starts-i c =
@@ -22,12 +22,14 @@ bounds-sizes-i c =
 
 pub returns-then-in_range : goal.returns-then-in_range
 returns-then-in_range c =
-    sym (mem_here c.args.starts.now c.args.sizes.now c.loop-i.i c.args.ranges c.loop-i-test.true c.args.k (sym c.in_range.ensures ∙ c.if-in_range.true)) ∙ c.loop-i.invariant.1
+    let has = sym c.in_range.ensures ∙ c.if-in_range.true in
+    sym (mem_here c.args.starts.now c.args.sizes.now c.loop-i.i c.args.ranges (omega arith) c.args.k has) ∙ c.loop-i.invariant
 
 pub loop-i-preserved : goal.loop-i-preserved
 loop-i-preserved c =
-    (omega arith, sym (mem_next c.args.starts.now c.args.sizes.now c.loop-i.i c.args.ranges c.loop-i-test.true c.args.k (sym c.in_range.ensures ∙ c.if-in_range.false)) ∙ c.loop-i.invariant.1)
+    let lacks = sym c.in_range.ensures ∙ c.if-in_range.false in
+    sym (mem_next c.args.starts.now c.args.sizes.now c.loop-i.i c.args.ranges (omega arith) c.args.k lacks) ∙ c.loop-i.invariant
 
 pub returns : goal.returns
 returns c =
-    sym (mem_end c.args.starts.now c.args.sizes.now c.loop-i.i c.args.ranges c.loop-i-test.false c.args.k) ∙ c.loop-i.invariant.1
+    sym (mem_end c.args.starts.now c.args.sizes.now c.loop-i.i c.args.ranges (omega arith) c.args.k) ∙ c.loop-i.invariant

@@ -2,32 +2,34 @@
 use native.Mathlib.Omega.{arith}
 use mathlib.Core.Path.{refl, ◌∙◌, sym, ap}
 use mathlib.Core.List.{List, []}
-use Prim.Native.Nat.{ℕ}
+use Prim.Native.Nat.{ℕ, ◌+◌, ◌-◌}
 use lib.ListN.{length-set}
 use Rattle.step.specs.Steps.{set_all}
-use Rattle.walking.proofs.Ranging.{count_whole, set_next, set_done}
+use Rattle.walking.proofs.Ranging.{count_whole, set_next, set_done, range_fits}
 use Rattle.walking.proofs.set_range.Goals as goal
 
-pub loop-d-init : goal.loop-d-init
-loop-d-init c =
-    (omega arith, refl, ap (λ (l : List ℕ). set_all [] c.args.value l c.args.state.now) (count_whole c.args.first c.args.size))
+pub overflow_add-k-end : goal.overflow_add-k-end
+overflow_add-k-end c =
+    let end = range_fits c.args.first c.args.size _ 4294967296 c.requires.below_in (omega arith) (omega (arith, c.requires.state_len_bound)) in
+    omega (arith, end)
 
-pub overflow_add-k : goal.overflow_add-k
-overflow_add-k c =
-    omega (arith, c.requires.below_in c.loop-d.d c.loop-d-test.true, c.requires.state_len_bound)
+pub loop-k-init : goal.loop-k-init
+loop-k-init c =
+    (refl, ap (λ (l : List ℕ). set_all [] c.args.value l c.args.state.now) (count_whole c.args.first c.args.size))
 
-pub overflow_cast-k : goal.overflow_cast-k
-overflow_cast-k c =
-    omega (arith, c.requires.below_in c.loop-d.d c.loop-d-test.true, c.requires.state_len_bound)
+pub overflow_cast-state : goal.overflow_cast-state
+overflow_cast-state c =
+    omega (arith, c.requires.below_in (c.loop-k.k - c.args.first) (omega arith), c.requires.state_len_bound)
 
 pub bounds-state-k : goal.bounds-state-k
 bounds-state-k c =
-    omega (arith, c.requires.below_in c.loop-d.d c.loop-d-test.true, c.loop-d.invariant.1)
+    omega (arith, c.requires.below_in (c.loop-k.k - c.args.first) (omega arith), c.loop-k.invariant.0)
 
-pub loop-d-preserved : goal.loop-d-preserved
-loop-d-preserved c =
-    (omega arith, simp length-set c.loop-d.invariant.1, sym (set_next c.args.value c.args.first c.args.size c.loop-d.d c.loop-d.state c.loop-d-test.true) ∙ c.loop-d.invariant.2)
+pub loop-k-preserved : goal.loop-k-preserved
+loop-k-preserved c =
+    let next = set_next c.args.value c.loop-k.k (c.args.first + c.args.size) c.loop-k.state (omega arith) in
+    (simp length-set c.loop-k.invariant.0, sym next ∙ c.loop-k.invariant.1)
 
 pub returns : goal.returns
 returns c =
-    sym (set_done c.args.value c.args.first c.args.size c.loop-d.d c.loop-d.state c.loop-d-test.false) ∙ c.loop-d.invariant.2
+    sym (set_done c.args.value c.loop-k.k (c.args.first + c.args.size) c.loop-k.state (omega arith)) ∙ c.loop-k.invariant.1

@@ -1,14 +1,13 @@
--- What each turn of a loop in `walking::set_range` keeps, and what falls.
+-- What each turn of a loop in `walking::set_range` keeps.
 use mathlib.Core.Path.{◌≡◌}
 use mathlib.Core.List.{[]}
-use Prim.Native.Nat.{◌+◌, ◌-◌, ◌≤◌}
+use Prim.Native.Nat.{◌+◌, ◌-◌}
 use lib.ListN.{length}
 use Rattle.lists.specs.Lists.{count}
 use Rattle.step.specs.Steps.{set_all}
 use Rattle.walking.proofs.set_range.Given as goal
 
-abbrev pub invariant-loop-d : goal.invariant-loop-d
-invariant-loop-d l = (l.d ≤ l.size) × (length l.state ≡ length l.initial.state) × (set_all [] l.value (count (l.first + l.d) (l.size - l.d)) l.state ≡ set_all [] l.value (count l.first l.size) l.initial.state)
-
-abbrev pub decreases-loop-d : goal.decreases-loop-d
-decreases-loop-d l = l.size - l.d
+abbrev pub invariant-loop-k : goal.invariant-loop-k
+invariant-loop-k l =
+    (length l.state ≡ length l.initial.state)
+    × (set_all [] l.value (count l.k (l.first + l.size - l.k)) l.state ≡ set_all [] l.value (count l.first l.size) l.initial.state)

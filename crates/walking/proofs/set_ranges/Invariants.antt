@@ -1,7 +1,7 @@
--- What each turn of a loop in `walking::set_ranges` keeps, and what falls.
+-- What each turn of a loop in `walking::set_ranges` keeps.
 use mathlib.Core.Path.{◌≡◌}
 use mathlib.Core.List.{[]}
-use Prim.Native.Nat.{ℕ, ◌-◌, ◌≤◌, ◌<◌}
+use Prim.Native.Nat.{ℕ, ◌-◌, ◌<◌}
 use lib.Dec.{T}
 use lib.ListN.{length}
 use Rattle.lists.specs.Lists.{mem}
@@ -10,7 +10,8 @@ use Rattle.step.specs.Steps.{set_all}
 use Rattle.walking.proofs.set_ranges.Given as goal
 
 abbrev pub invariant-loop-i : goal.invariant-loop-i
-invariant-loop-i l = (l.i ≤ l.ranges) × (length l.state ≡ length l.initial.state) × ((b : ℕ) → T (mem b (ranged_from l.starts l.sizes l.i (l.ranges - l.i))) → b < length l.initial.state) × (set_all [] l.value (ranged_from l.starts l.sizes l.i (l.ranges - l.i)) l.state ≡ set_all [] l.value (ranged l.starts l.sizes l.ranges) l.initial.state)
-
-abbrev pub decreases-loop-i : goal.decreases-loop-i
-decreases-loop-i l = l.ranges - l.i
+invariant-loop-i l =
+    (length l.state ≡ length l.initial.state)
+    × ((b : ℕ) → T (mem b (ranged_from l.starts l.sizes l.i (l.ranges - l.i))) → b < length l.initial.state)
+    × (set_all [] l.value (ranged_from l.starts l.sizes l.i (l.ranges - l.i)) l.state
+    ≡ set_all [] l.value (ranged l.starts l.sizes l.ranges) l.initial.state)
