@@ -164,13 +164,11 @@ pub fn lay_side<'a>(
 {
     let n = records::conditions(table) as usize;
     let paper = !records::old_rule(table);
-    let mut b: usize = 0;
-    while b < n {
+    for b in 0..n {
         let share = share_at(
             table, users, bases, marks, uses, chosen, before, after, paper, b,
         );
         let g = shifted(side_of(share, side), shift);
         segments::keep_segment(g, b, starts, sizes);
-        b = b + 1;
     }
 }

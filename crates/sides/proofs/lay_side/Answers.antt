@@ -14,7 +14,7 @@ use Rattle.sides.proofs.lay_side.Goals as goal
 
 pub loop-b-init : goal.loop-b-init
 loop-b-init c =
-    (omega arith, refl, refl, ranged_none c.args.starts.now c.args.sizes.now)
+    (refl, refl, ranged_none c.args.starts.now c.args.sizes.now)
 
 pub share_at-share-requires : goal.share_at-share-requires
 share_at-share-requires c =
@@ -31,12 +31,12 @@ shifted-g-requires c =
 
 pub keep_segment-requires : goal.keep_segment-requires
 keep_segment-requires c =
-    (omega (arith, c.loop-b.invariant.1, c.conditions-n.ensures, c.requires.table_in_bounds.0), omega (arith, c.loop-b.invariant.2, c.conditions-n.ensures, c.requires.table_in_bounds.1))
+    (omega (arith, c.loop-b.invariant.0, c.conditions-n.ensures, c.requires.table_in_bounds.0), omega (arith, c.loop-b.invariant.1, c.conditions-n.ensures, c.requires.table_in_bounds.1))
 
 pub loop-b-preserved : goal.loop-b-preserved
 loop-b-preserved c =
-    (omega arith, omega (arith, c.loop-b.invariant.1), omega (arith, c.loop-b.invariant.2), raise_next c.args.shift _ _ _ (λ i. within (side_of c.args.side (share_at c.args.table.now c.args.users.now c.args.bases.now c.args.marks.now c.args.uses.now c.args.chosen.now c.args.before.now c.args.after.now (not c.old_rule-paper.result) i))) c.loop-b.b c.shifted-g.result c.keep_segment.ensures c.loop-b.invariant.3 (c.shifted-g.ensures ∙ ap (λ (g : Segment). raise c.args.shift (within g)) (c.side_of.ensures ∙ ap (λ (g : Share). side_of c.args.side g) c.share_at-share.ensures)))
+    (omega (arith, c.loop-b.invariant.0), omega (arith, c.loop-b.invariant.1), raise_next c.args.shift _ _ _ (λ i. within (side_of c.args.side (share_at c.args.table.now c.args.users.now c.args.bases.now c.args.marks.now c.args.uses.now c.args.chosen.now c.args.before.now c.args.after.now (not c.old_rule-paper.result) i))) c.loop-b.b c.shifted-g.result c.keep_segment.ensures c.loop-b.invariant.2 (c.shifted-g.ensures ∙ ap (λ (g : Segment). raise c.args.shift (within g)) (c.side_of.ensures ∙ ap (λ (g : Share). side_of c.args.side g) c.share_at-share.ensures)))
 
 pub returns : goal.returns
 returns c =
-    shares_laid c.requires.sided (not c.old_rule-paper.result) (ap not c.old_rule-paper.ensures) c.args.side c.args.shift c.loop-b.b _ c.loop-b.starts c.loop-b.sizes (omega (arith, c.conditions-n.ensures)) c.requires.table_value c.loop-b.invariant.3
+    shares_laid c.requires.sided (not c.old_rule-paper.result) (ap not c.old_rule-paper.ensures) c.args.side c.args.shift c.loop-b.b _ c.loop-b.starts c.loop-b.sizes (omega (arith, c.conditions-n.ensures)) c.requires.table_value c.loop-b.invariant.2

@@ -1,5 +1,5 @@
--- What each turn of a loop in `sides::lay_side` keeps, and what falls.
-use Prim.Native.Nat.{◌*◌, ◌-◌, ◌≤◌}
+-- What each turn of a loop in `sides::lay_side` keeps.
+use Prim.Native.Nat.{◌*◌}
 use mathlib.Core.Path.{◌≡◌}
 use lib.ListN.{length}
 use Rattle.lists.specs.Lists.{count, spread}
@@ -9,8 +9,7 @@ use Rattle.sides.proofs.Raised.{raise}
 use Rattle.sides.proofs.lay_side.Given as goal
 
 abbrev pub invariant-loop-b : goal.invariant-loop-b
-invariant-loop-b l = (l.b ≤ l.n) × (length l.starts ≡ length l.initial.starts) × (length l.sizes ≡ length l.initial.sizes)
+invariant-loop-b l =
+    (length l.starts ≡ length l.initial.starts)
+    × (length l.sizes ≡ length l.initial.sizes)
     × (ranged l.starts l.sizes (2 * l.b) ≡ raise l.shift (spread (λ i. within (side_of l.side (share_at l.table l.users l.bases l.marks l.uses l.chosen l.before l.after l.paper i))) (count 0 l.b)))
-
-abbrev pub decreases-loop-b : goal.decreases-loop-b
-decreases-loop-b l = l.n - l.b
