@@ -74,8 +74,7 @@ fn lay_arcs<'a>(
     ensures { Arcs (net_of table.now) (sum (size (net_of table.now)) own.event + own.rest) starts.new sizes.new }
 {
     let n = records::conditions(table) as usize;
-    let mut i: usize = 0;
-    while i < 4 {
+    for i in 0..4 {
         let at = i * (2 * n);
         sides::lay_side(
             table,
@@ -92,7 +91,6 @@ fn lay_arcs<'a>(
             &mut starts[at..],
             &mut sizes[at..],
         );
-        i = i + 1;
     }
 }
 
