@@ -32,14 +32,12 @@ fn next_range(sizes: &[u32], ranges: usize, from: usize) -> usize
     requires { (from ≤ ranges) × (ranges ≤ length sizes.now) }
     ensures { Skips sizes.now ranges from result }
 {
-    let mut range = from;
-    while range < ranges {
+    for range in from..ranges {
         if 0 < sizes[range] {
             return range;
         }
-        range = range + 1;
     }
-    range
+    ranges
 }
 
 // How many ranges the arcs of a transition have.
