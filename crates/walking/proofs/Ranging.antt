@@ -1,6 +1,6 @@
 -- Ranges walked: whether they have a number, which of their numbers fails first, and bytes set at each.
 use mathlib.Core.Path.{◌≡◌, refl, sym, ◌∙◌, ap}
-use mathlib.Core.Bool.{Bool, true, false, cond}
+use mathlib.Core.Bool.{Bool, true, false, ◌||◌, cond}
 use mathlib.Core.Option.{Option, none, some}
 use mathlib.Core.List.{List, [], ◌∷◌, ◌++◌}
 use Prim.Native.Nat.{ℕ, zero, suc, ◌+◌, ◌-◌, ◌≤◌, ◌<◌}
@@ -18,6 +18,7 @@ use Rattle.segments.proofs.Ranged.{ranged_on, ranged_end}
 use Rattle.step.specs.Steps.{set_all}
 use Rattle.walking.specs.Steps.{Failing, failing_of, BelowIn}
 use Rattle.std.specs.Prelude.{None, Some}
+use Rattle.std.specs.List.{list_any, range_with_len}
 
 -- ---- a number in a range
 
@@ -30,16 +31,16 @@ range_here a p k h =
     (λ t. let l = ltb→lt (k - a) p t in in_mem (count_in_lem k a p h (omega arith)))
     (λ t. let r = count_out k a p (mem_in k (count a p) t) in T_of (ltb (k - a) p) (lt-ltb (k - a) p (omega arith)))
 
-module _ (starts sizes : List ℕ) (i k : ℕ) where
-  pub mem_here : i < k → (x : ℕ) → mem x (count (get_or starts i 0) (get_or sizes i 0)) ≡ true → mem x (ranged_from starts sizes i (k - i)) ≡ true
-  mem_here h x e = rw (ranged_on starts sizes i k h, mem_append, e)
-
-  pub mem_next : i < k → (x : ℕ) → mem x (count (get_or starts i 0) (get_or sizes i 0)) ≡ false
-      → mem x (ranged_from starts sizes i (k - i)) ≡ mem x (ranged_from starts sizes (i + 1) (k - (i + 1)))
-  mem_next h x e = rw (ranged_on starts sizes i k h, mem_append, e)
-
-  pub mem_end : k ≤ i → (x : ℕ) → mem x (ranged_from starts sizes i (k - i)) ≡ false
-  mem_end h x = rw (ranged_end starts sizes i k h)
+-- one of so many ranges has a number as soon as some of them does
+pub any_has : (starts sizes : List ℕ) (x o n : ℕ)
+    → list_any (λ i. mem x (count (get_or starts i 0) (get_or sizes i 0))) (range_with_len o n) ≡ mem x (ranged_from starts sizes o n)
+unfolding ranged_from
+any_has starts sizes x o zero = refl
+any_has starts sizes x o (suc n) =
+    let here = count (get_or starts o 0) (get_or sizes o 0) in
+    let later : list_any (λ i. mem x (count (get_or starts i 0) (get_or sizes i 0))) (range_with_len (o + 1) n) ≡ mem x (ranged_from starts sizes (suc o) n) =
+    rw add-one (any_has starts sizes x (suc o) n) in
+    ap (λ (t : Bool). mem x here || t) later ∙ sym (mem_append x here (ranged_from starts sizes (suc o) n))
 
 -- ---- the first that fails
 

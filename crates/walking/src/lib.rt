@@ -36,12 +36,7 @@ fn in_ranges<'a>(starts: &'a [u32], sizes: &'a [u32], ranges: usize, k: u32) -> 
     requires { Kept starts.now sizes.now ranges }
     ensures { result ≡ mem k (ranged starts.now sizes.now ranges) }
 {
-    for i in 0..ranges {
-        if in_range(starts[i], sizes[i], k) {
-            return true;
-        }
-    }
-    false
+    (0..ranges).any(|i| in_range(starts[i], sizes[i], k))
 }
 
 // Whether an unfolded condition follows the old rule: its table asks for it, and its condition is ordinary.
