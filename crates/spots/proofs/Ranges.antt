@@ -1,4 +1,4 @@
--- Sums of the sizes of ranges: what an empty range adds, and which range a number stands in.
+-- Sums of the sizes of ranges: which range a number stands in.
 use Prim.Native.Nat.{ℕ, ◌+◌, ◌*◌, ◌-◌, ◌≤◌, ◌<◌}
 use mathlib.Core.Path.{◌≡◌, refl, sym, ◌∙◌, ap}
 use mathlib.Core.List.{List}
@@ -23,10 +23,6 @@ sum_most f i k h = go (dec_le k i)
 pub size_next : (sizes : List ℕ) (r : ℕ) → sizes_before sizes (r + 1) ≡ sizes_before sizes r + get_or sizes r 0
 size_next sizes r = sym (sum_next (λ i. get_or sizes i 0) r (get_or sizes r 0) refl)
 
--- an empty range is passed over
-pub passed_over : (sizes : List ℕ) (r : ℕ) → get_or sizes r 0 ≤ 0 → sizes_before sizes (r + 1) ≡ sizes_before sizes r
-passed_over sizes r h = omega (arith, size_next sizes r)
-
 -- a number that is looked for stands in no range before the one that the walk has come to, and in one that there is
 pub range_there : (sizes : List ℕ) (before wanted : ℕ) (h : Holding sizes before wanted) (r left : ℕ) → before + (sizes_before sizes r + left) ≡ wanted → r < h.ranges
 range_there sizes before wanted h r left e = go (dec_le h.ranges r)
@@ -34,10 +30,6 @@ range_there sizes before wanted h r left e = go (dec_le h.ranges r)
     go : Dec (h.ranges ≤ r) → r < h.ranges
     go (yes l) = absurd (omega (arith, sum_most (λ i. get_or sizes i 0) h.ranges r l, h.below))
     go (no l) = omega arith
-
-pub passed_by : (sizes : List ℕ) (before wanted r left : ℕ) → before + (sizes_before sizes r + left) ≡ wanted → get_or sizes r 0 ≤ left
-    → before + (sizes_before sizes (r + 1) + (left - get_or sizes r 0)) ≡ wanted
-passed_by sizes before wanted r left e h = omega (arith, size_next sizes r)
 
 -- ---- the ranges of a transition
 

@@ -220,16 +220,17 @@ pub fn spot_in(reached: Reached, wanted: usize, sizes: &[u32]) -> Spot
     ensures { Held sizes.now reached wanted result }
 {
     let mut left = (wanted - reached.before) as u32;
-    let mut range: usize = 0;
-    while sizes[range] <= left {
-        left = left - sizes[range];
-        range = range + 1;
+    for (range, size) in sizes.iter().enumerate() {
+        if left < *size {
+            return Spot {
+                own: reached.own,
+                transition: reached.transition,
+                number: wanted,
+                range,
+                offset: left,
+            };
+        }
+        left = left - *size;
     }
-    Spot {
-        own: reached.own,
-        transition: reached.transition,
-        number: wanted,
-        range,
-        offset: left,
-    }
+    unreachable!()
 }
