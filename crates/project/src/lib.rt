@@ -163,14 +163,12 @@ fn play<'a>(
     requires { Underway table.now offsets.now markers.now users.now before.now begun.now lifted.now 0 state.old seen.old places.old kept.old }
     ensures { Replayed (net_of table.now) lifted.now result state.new seen.new }
 {
-    let mut k: usize = 0;
-    while k < lifted.len() {
+    for k in 0..lifted.len() {
         if let Err(cause) = step_unfolded(
             table, offsets, markers, users, before, begun, lifted, k, state, seen, places, kept,
         ) {
             return Err(cause.at(k));
         }
-        k = k + 1;
     }
     Ok(lifted.len())
 }
@@ -218,10 +216,8 @@ fn read_back<'a>(before: &'a [u32], events: usize, lifted: &'a [u16], out: &mut 
     requires lifted_in_bounds { length lifted.now ≤ length out.old }
     ensures { Read before.now events lifted.now (length lifted.now) out.old out.new }
 {
-    let mut k: usize = 0;
-    while k < lifted.len() {
-        out[k] = across::event_of(before, events, lifted[k] as u32) as u16;
-        k = k + 1;
+    for (k, number) in lifted.iter().enumerate() {
+        out[k] = across::event_of(before, events, u32::from(*number)) as u16;
     }
 }
 

@@ -28,10 +28,6 @@ pub returns-in-Err : goal.returns-in-Err
 returns-in-Err c =
     walk_stops _ _ _ _ _ _ _ c.loop-k.invariant c.loop-k-test.true _ _ _ _ _ c.step_unfolded.ensures _ c.in-Err.is _ (ap Err c.at.ensures) _ _
 
-pub overflow_add-k : goal.overflow_add-k
-overflow_add-k c =
-    omega (arith, c.loop-k-test.true, c.loop-k.invariant.short)
-
 pub loop-k-preserved : goal.loop-k-preserved
 loop-k-preserved c =
     walk_on _ _ _ _ _ _ _ _ c.step_unfolded.ensures c.in_default.is

@@ -1,11 +1,6 @@
--- What each turn of a loop in `project::read_back` keeps, and what falls.
-use Prim.Native.Nat.{◌-◌, ◌≤◌}
-use lib.ListN.{length}
+-- The events of the first k numbers are in the output.
 use Rattle.project.specs.Walked.{Read}
 use Rattle.project.proofs.read_back.Given as goal
 
 abbrev pub invariant-loop-k : goal.invariant-loop-k
-invariant-loop-k l = (l.k ≤ length l.lifted) × Read l.before l.events l.lifted l.k l.initial.out l.out
-
-abbrev pub decreases-loop-k : goal.decreases-loop-k
-decreases-loop-k l = length l.lifted - l.k
+invariant-loop-k l = Read l.before l.events l.lifted l.k l.initial.out l.out
