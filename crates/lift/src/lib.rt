@@ -18,12 +18,10 @@ fn write_lifted<'a>(later: &'a [u32], run: &'a [u16], numbers: &mut [u32], out: 
     requires { Writing later.now numbers.old run.now (length out.old) }
     ensures { out.new ≡ numbers_for later.now numbers.old run.now ++ drop (length run.now) out.old }
 {
-    let mut k: usize = 0;
-    while k < run.len() {
-        let e = run[k] as usize;
+    for (k, event) in run.iter().enumerate() {
+        let e = usize::from(*event);
         out[k] = numbers[e] as u16;
         numbers[e] = later[e];
-        k = k + 1;
     }
 }
 
