@@ -8,6 +8,7 @@ use lib.Dec.{ltb, ltb→lt}
 use lib.ListN.{get_or, set}
 use native.Mathlib.Numerals.{add-one}
 use native.Mathlib.Omega.{arith}
+use native.Mathlib.Decide.{ℕ_discrete}
 use borrow.Author.Tests.{lt-ltb}
 use Rattle.lists.specs.Lists.{mem, failing, count}
 use Rattle.lists.proofs.Bools.{T_of, is_false, iff}
@@ -17,7 +18,8 @@ use Rattle.segments.specs.Ranges.{ranged_from}
 use Rattle.segments.proofs.Ranged.{ranged_on, ranged_end}
 use Rattle.step.specs.Steps.{set_all}
 use Rattle.walking.specs.Steps.{Failing, failing_of, BelowIn}
-use Rattle.std.specs.Prelude.{None, Some}
+use Rattle.std.specs.Prelude.{Option as Perhaps, None, Some}
+use Rattle.std.specs.Option.{MatchOption, option_map}
 use Rattle.std.specs.List.{list_any, range_with_len}
 
 -- ---- a number in a range
@@ -44,18 +46,24 @@ any_has starts sizes x o (suc n) =
 
 -- ---- the first that fails
 
-module _ (f : ℕ → Bool) (k end : ℕ) where
-  left : k < end → end - k ≡ suc (end - (k + 1))
-  left h = omega arith
-
-  pub failing_here : k < end → f k ≡ false → failing f (count k (end - k)) ≡ some k
-  failing_here h e = rw (left h, e)
-
-  pub failing_next : k < end → f k ≡ true → failing f (count k (end - k)) ≡ failing f (count (k + 1) (end - (k + 1)))
-  failing_next h e = rw (left h, e, add-one)
-
-  pub failing_end : end ≤ k → failing f (count k (end - k)) ≡ none
-  failing_end h = let z : end - k ≡ 0 = omega arith in rw z
+-- what a search over the numbers of a range found is the first that fails
+pub failing_found_in : (f : ℕ → Bool) (first size : ℕ) (r : Perhaps ℕ)
+    → MatchOption r ((k : ℕ) → first ≤ k → k < first + size → f k ≡ true)
+    (λ b. (first ≤ b) × (b < first + size) × (f b ≡ false) × ((k : ℕ) → first ≤ k → k < b → f k ≡ true))
+    → option_map (λ b. record { 0 = b }) r ≡ failing_of (failing f (count first size))
+failing_found_in f first zero None all = refl
+failing_found_in f first zero (Some b) (least, below, fails, pass) = absurd (omega arith)
+failing_found_in f first (suc n) None all =
+    rw (all first (omega arith) (omega arith)) (failing_found_in f (suc first) n None (λ k low high. all k (omega arith) (omega arith)))
+failing_found_in f first (suc n) (Some b) (least, below, fails, pass) =
+    go (ℕ_discrete first b)
+    (λ no. failing_found_in f (suc first) n (Some b) (omega (arith, no), omega arith, fails, λ k low high. pass k (omega arith) high))
+  where
+    go : Dec (first ≡ b)
+        → ((first ≡ b → ⊥) → ◌≡◌ {A = Failing} (Some (record { 0 = b })) (failing_of (failing f (count (suc first) n))))
+        → ◌≡◌ {A = Failing} (Some (record { 0 = b })) (failing_of (failing f (count first (suc n))))
+    go (yes e) later = let here : f first ≡ false = rw (← e) at fails in rw (here, e) refl
+    go (no e) later = rw (pass first (omega arith) (omega (arith, e))) (later e)
 
 -- the end of a range is below what its beginning and the bound of its numbers are below
 pub range_fits : (first size most limit : ℕ) → BelowIn first size most → first < limit → most < limit → first + size < limit

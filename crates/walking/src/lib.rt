@@ -98,12 +98,9 @@ fn first_in<'a>(
     requires below_in { BelowIn first size (basic (net_of table.now)).conditions }
     ensures { result ≡ failing_of (failing (passes_of contact (marking state.now) (ranged starts.now sizes.now ranges) (basic (net_of table.now)).old) (count first size)) }
 {
-    for k in first..first + size {
-        if !passes(table, bases, contact, state, starts, sizes, ranges, k) {
-            return Some(UnfoldedCondition(k as u16));
-        }
-    }
-    None
+    (first..first + size)
+        .find(|k| !passes(table, bases, contact, state, starts, sizes, ranges, *k))
+        .map(|k| UnfoldedCondition(k as u16))
 }
 
 // The first number of a list of ranges that fails, the taken ones being ranges too.

@@ -17,7 +17,8 @@ use Rattle.walking.proofs.first_failing.Goals as goal
 
 pub loop-i-init : goal.loop-i-init
 loop-i-init c =
-    let test : ℕ → Bool = passes_of c.args.contact (marking c.args.state.now) (ranged c.args.starts.now c.args.sizes.now c.args.ranges) (basic (net_of c.args.table.now)).old in
+    let taken = ranged c.args.starts.now c.args.sizes.now c.args.ranges in
+    let test : ℕ → Bool = passes_of c.args.contact (marking c.args.state.now) taken (basic (net_of c.args.table.now)).old in
     let w = ranged_whole c.args.firsts.now c.args.widths.now c.args.all in
     (λ b t. c.requires.below_2.each b (rw w at t), ap (λ (l : List ℕ). failing test l) w)
 
@@ -40,19 +41,22 @@ first_in-requires c =
 
 pub returns-in-Some : goal.returns-in-Some
 returns-in-Some c =
-    let test : ℕ → Bool = passes_of c.args.contact (marking c.args.state.now) (ranged c.args.starts.now c.args.sizes.now c.args.ranges) (basic (net_of c.args.table.now)).old in
+    let taken = ranged c.args.starts.now c.args.sizes.now c.args.ranges in
+    let test : ℕ → Bool = passes_of c.args.contact (marking c.args.state.now) taken (basic (net_of c.args.table.now)).old in
     let one = one_found test c.args.firsts.now c.args.widths.now c.loop-i.i c.args.all (omega arith) c.first_in.result c.first_in.ensures c.in-Some.is in
     sym c.in-Some.is ∙ one ∙ ap failing_of c.loop-i.invariant.1
 
 pub loop-i-preserved : goal.loop-i-preserved
 loop-i-preserved c =
-    let test : ℕ → Bool = passes_of c.args.contact (marking c.args.state.now) (ranged c.args.starts.now c.args.sizes.now c.args.ranges) (basic (net_of c.args.table.now)).old in
+    let taken = ranged c.args.starts.now c.args.sizes.now c.args.ranges in
+    let test : ℕ → Bool = passes_of c.args.contact (marking c.args.state.now) taken (basic (net_of c.args.table.now)).old in
     let none = none_found test c.args.firsts.now c.args.widths.now c.loop-i.i c.args.all (omega arith) c.first_in.result c.first_in.ensures c.in_default.is in
     let others = others_there c.args.firsts.now c.args.widths.now c.loop-i.i c.args.all (omega arith) in
     (λ b t. c.loop-i.invariant.0 b (others b t), sym none ∙ c.loop-i.invariant.1)
 
 pub returns : goal.returns
 returns c =
-    let test : ℕ → Bool = passes_of c.args.contact (marking c.args.state.now) (ranged c.args.starts.now c.args.sizes.now c.args.ranges) (basic (net_of c.args.table.now)).old in
+    let taken = ranged c.args.starts.now c.args.sizes.now c.args.ranges in
+    let test : ℕ → Bool = passes_of c.args.contact (marking c.args.state.now) taken (basic (net_of c.args.table.now)).old in
     let end = ranged_end c.args.firsts.now c.args.widths.now c.loop-i.i c.args.all (omega arith) in
     sym (ap failing_of (sym c.loop-i.invariant.1 ∙ ap (λ (l : List ℕ). failing test l) end))

@@ -17,10 +17,6 @@ pub loop-k-init : goal.loop-k-init
 loop-k-init c =
     (refl, ap (λ (l : List ℕ). set_all [] c.args.value l c.args.state.now) (count_whole c.args.first c.args.size))
 
-pub overflow_cast-state : goal.overflow_cast-state
-overflow_cast-state c =
-    omega (arith, c.requires.below_in (c.loop-k.k - c.args.first) (omega arith), c.requires.state_len_bound)
-
 pub bounds-state-k : goal.bounds-state-k
 bounds-state-k c =
     omega (arith, c.requires.below_in (c.loop-k.k - c.args.first) (omega arith), c.loop-k.invariant.0)
