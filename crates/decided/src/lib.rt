@@ -140,16 +140,9 @@ fn first_lacking<'a>(
 ) -> Option<TableCondition>
     ensures { result ≡ failing_of (failing (ready_at table.now state.now begun.now seen.now places.now kept.now) (words pre.now)) }
 {
-    let mut i: usize = 0;
-    while 1 < pre.len() - i {
-        let b = words::word(pre, i);
-        if is_ready(table, state, begun, seen, places, kept, b as usize) {
-            i = i + 2;
-        } else {
-            return Some(TableCondition(b));
-        }
-    }
-    None
+    words::numbers(pre)
+        .find(|b| !is_ready(table, state, begun, seen, places, kept, usize::from(*b)))
+        .map(TableCondition)
 }
 
 // Whether event e gives back every copy of condition b that it marks: there is no user, or e alone, whose kept marker is e.
@@ -222,18 +215,20 @@ fn first_meeting<'a>(
     requires { Members (excused table.now (words pre.now)) taken.now }
     ensures { result ≡ failing_of (failing (clear_at table.now users.now (words pre.now) e again state.now places.now kept.now) (words post.now)) }
 {
-    let mut i: usize = 0;
-    while 1 < post.len() - i {
-        let b = words::word(post, i);
-        if is_clear(
-            table, users, pre, taken, e, again, state, places, kept, b as usize,
-        ) {
-            i = i + 2;
-        } else {
-            return Some(TableCondition(b));
-        }
-    }
-    None
+    words::numbers(post)
+        .find(|b| !is_clear(
+            table,
+            users,
+            pre,
+            taken,
+            e,
+            again,
+            state,
+            places,
+            kept,
+            usize::from(*b),
+        ))
+        .map(TableCondition)
 }
 
 // The preconditions that excuse from contact: all, or none where the table has the old rule.

@@ -1,32 +1,38 @@
--- A list of conditions walked two bytes at a time: the first that fails a test, and bytes set in turn.
-use Prim.Native.Nat.{ℕ, ◌+◌, ◌-◌, ◌≤◌, ◌<◌}
-use mathlib.Core.Path.{◌≡◌, sym, ◌∙◌}
-use mathlib.Core.Bool.{Bool, true, false}
+-- A list of conditions: the first that fails a test, and bytes set in turn.
+use Prim.Native.Nat.{ℕ, ◌≤◌}
+use mathlib.Core.Path.{◌≡◌, refl, sym, ap, ◌∙◌}
+use mathlib.Core.Bool.{Bool, true, false, not, cond}
 use mathlib.Core.List.{List, [], ◌∷◌}
-use mathlib.Core.Option.{some, none}
-use lib.ListN.{length, get_or, drop, set}
+use mathlib.Core.Option.{some}
+use lib.ListN.{length, get_or, set}
 use lib.Seq.{set_out}
 use borrow.Author.Tests.{eq-eqb, ne_eqb}
 use Rattle.lists.specs.Lists.{failing}
-use Rattle.words.specs.Words.{word_at, words}
-use Rattle.words.proofs.Laws.{words_next, words_end}
-use Rattle.step.specs.Steps.{set_one, set_all}
+use Rattle.std.specs.Prelude.{None, Some, Option as Found}
+use Rattle.std.specs.List.{find}
+use Rattle.std.specs.Option.{option_map}
+use Rattle.step.specs.Steps.{failing_of, set_one, set_all}
 
--- a condition b that stands at i
-module _ (s : List ℕ) (i b : ℕ) (h : 1 < length s - i) (e : b ≡ word_at s i) where
-  next : words (drop i s) ≡ b ∷ words (drop (i + 2) s)
-  next = words_next s i h ∙ rw e
+-- the first that fails a test, as an answer
+first_failing : (f : ℕ → Bool) (l : List ℕ) → option_map (λ b. record { 0 = b }) (find (λ b. not (f b)) l) ≡ failing_of (failing f l)
+first_failing f [] = refl
+first_failing f (x ∷ xs) = go (f x) (first_failing f xs)
+  where
+    found : Found ℕ
+    found = find (λ b. not (f b)) xs
 
-  pub failing_here : (f : ℕ → Bool) → f b ≡ false → failing f (words (drop i s)) ≡ some b
-  failing_here f p = rw (next, p)
+    go : (t : Bool) → option_map (λ b. record { 0 = b }) found ≡ failing_of (failing f xs)
+        → option_map (λ b. record { 0 = b }) (cond (not t) (Some x) found) ≡ failing_of (cond t (failing f xs) (some x))
+    go true later = later
+    go false later = refl
 
-  pub failing_on : (f : ℕ → Bool) → f b ≡ true → failing f (words (drop i s)) ≡ failing f (words (drop (i + 2) s))
-  failing_on f p = rw (next, p)
+as_found : (r : Found ℕ) → option_map (λ x. x) r ≡ r
+as_found None = refl
+as_found (Some b) = refl
 
--- no condition left
-module _ (s : List ℕ) (i : ℕ) (h : length s - i ≤ 1) where
-  pub failing_end : (f : ℕ → Bool) → failing f (words (drop i s)) ≡ none
-  failing_end f = rw (words_end s i h)
+-- the same where an iterator finds it
+pub found_failing : (f : ℕ → Bool) (l : List ℕ) (r : Found ℕ) → option_map (λ x. x) r ≡ find (λ b. not (f b)) l → option_map (λ b. record { 0 = b }) r ≡ failing_of (failing f l)
+found_failing f l r is = ap (option_map (λ b. record { 0 = b })) (sym (as_found r) ∙ is) ∙ first_failing f l
 
 -- bytes set in turn, of which b is the next one, and of which none is left
 module _ (kept : List ℕ) (v : ℕ) (left l : List ℕ) where

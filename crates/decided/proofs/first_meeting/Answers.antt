@@ -1,21 +1,22 @@
 -- `decided::first_meeting` meets its contract.
-use native.Mathlib.Omega.{arith}
-use mathlib.Core.Path.{◌∙◌, sym, ap}
-use Rattle.step.specs.Steps.{failing_of}
-use Rattle.step.proofs.Lists.{failing_here, failing_on, failing_end}
+use Prim.Native.Nat.{ℕ}
+use borrow.Author.Tests.{tests}
+use mathlib.Core.Bool.{Bool, not}
+use mathlib.Core.Path.{◌∙◌}
+use Rattle.std.proofs.Common.{rules}
+use Rattle.std.proofs.lemmas.Iterator.Consumers.{YieldsList-from_first}
+use Rattle.std.proofs.lemmas.Iterator.Search.{find_from_yields_List}
+use Rattle.words.specs.Words.{words}
+use Rattle.words.specs.Numbers.{numbers_left}
+use Rattle.step.proofs.Lists.{found_failing}
+use Rattle.decided.specs.Kept.{clear_at}
 use Rattle.decided.proofs.first_meeting.Goals as goal
-
-pub is_clear-requires : goal.is_clear-requires
-is_clear-requires c = c.requires
-
-pub loop-i-preserved : goal.loop-i-preserved
-loop-i-preserved c =
-    (omega arith, c.loop-i.invariant.1 ∙ failing_on c.args.post.now c.loop-i.i _ c.loop-i-test.true c.word-b.ensures _ (sym c.is_clear.ensures ∙ c.if-is_clear.true))
-
-pub returns-else-is_clear : goal.returns-else-is_clear
-returns-else-is_clear c =
-    sym (ap failing_of (c.loop-i.invariant.1 ∙ failing_here c.args.post.now c.loop-i.i _ c.loop-i-test.true c.word-b.ensures _ (sym c.is_clear.ensures ∙ c.if-is_clear.false)))
 
 pub returns : goal.returns
 returns c =
-    sym (ap failing_of (c.loop-i.invariant.1 ∙ failing_end c.args.post.now c.loop-i.i c.loop-i-test.false _))
+    let a = c.args in
+    let list = words a.post.now in
+    let passes : ℕ → Bool = clear_at a.table.now a.users.now (words a.pre.now) a.e a.again a.state.now a.places.now a.kept.now in
+    let numbers = YieldsList-from_first (λ x. x) numbers_left list c.numbers.ensures.left in
+    let found = find_from_yields_List (λ b. not (passes b)) c.find.new.self _ c.find.result c.find.ensures.ran numbers (λ x b q k. search (rules, tests)) in
+    (search rules) ∙ found_failing passes list c.find.result found
