@@ -26,10 +26,8 @@ fn base<'a>(table: &'a [u8], markers: &'a [u32], users: &'a [u32], b: usize) -> 
     ensures { result ≡ sum (width (net_of table.now)) b }
 {
     let mut total: u32 = 0;
-    let mut i: usize = 0;
-    while i < b {
-        total = total + layout::width(table, markers, users, i);
-        i = i + 1;
+    for i in 0..b {
+        total += layout::width(table, markers, users, i);
     }
     total
 }

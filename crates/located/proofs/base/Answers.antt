@@ -21,9 +21,9 @@ overflow_add-total c =
 pub loop-i-preserved : goal.loop-i-preserved
 loop-i-preserved c =
     let here = width_here c.args.table.now c.args.markers.now c.args.users.now c.requires.counted c.loop-i.i (omega arith) c.width-total.ensures in
-    (omega arith, ap (λ (x : ℕ). x + c.width-total.result) c.loop-i.invariant.1 ∙ sum_next (width (net_of c.args.table.now)) c.loop-i.i c.width-total.result here)
+    ap (λ (x : ℕ). x + c.width-total.result) c.loop-i.invariant ∙ sum_next (width (net_of c.args.table.now)) c.loop-i.i c.width-total.result here
 
 pub returns : goal.returns
 returns c =
     let z : c.loop-i.i ≡ c.args.b = omega arith in
-    c.loop-i.invariant.1 ∙ ap (λ (x : ℕ). sum (width (net_of c.args.table.now)) x) z
+    c.loop-i.invariant ∙ ap (λ (x : ℕ). sum (width (net_of c.args.table.now)) x) z

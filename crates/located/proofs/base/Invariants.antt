@@ -1,5 +1,4 @@
--- What each turn of a loop in `located::base` keeps, and what falls.
-use Prim.Native.Nat.{◌-◌, ◌≤◌}
+-- The total is the copies of the conditions before the next one.
 use mathlib.Core.Path.{◌≡◌}
 use Rattle.lists.specs.Lists.{sum}
 use Rattle.model.specs.Numbering.{width}
@@ -7,7 +6,4 @@ use Rattle.table.specs.Decoded.{net_of}
 use Rattle.located.proofs.base.Given as goal
 
 abbrev pub invariant-loop-i : goal.invariant-loop-i
-invariant-loop-i l = (l.i ≤ l.b) × (l.total ≡ sum (width (net_of l.table)) l.i)
-
-abbrev pub decreases-loop-i : goal.decreases-loop-i
-decreases-loop-i l = l.b - l.i
+invariant-loop-i l = l.total ≡ sum (width (net_of l.table)) l.i
