@@ -35,7 +35,13 @@ keep_segment-requires c =
 
 pub loop-b-preserved : goal.loop-b-preserved
 loop-b-preserved c =
-    (omega (arith, c.loop-b.invariant.0), omega (arith, c.loop-b.invariant.1), raise_next c.args.shift _ _ _ (λ i. within (side_of c.args.side (share_at c.args.table.now c.args.users.now c.args.bases.now c.args.marks.now c.args.uses.now c.args.chosen.now c.args.before.now c.args.after.now (not c.old_rule-paper.result) i))) c.loop-b.b c.shifted-g.result c.keep_segment.ensures c.loop-b.invariant.2 (c.shifted-g.ensures ∙ ap (λ (g : Segment). raise c.args.shift (within g)) (c.side_of.ensures ∙ ap (λ (g : Share). side_of c.args.side g) c.share_at-share.ensures)))
+    let a = c.args in
+    let paper = not c.old_rule-paper.result in
+    let share = share_at a.table.now a.users.now a.bases.now a.marks.now a.uses.now a.chosen.now a.before.now a.after.now paper in
+    let side = c.side_of.ensures ∙ ap (λ (g : Share). side_of a.side g) c.share_at-share.ensures in
+    let raised = c.shifted-g.ensures ∙ ap (λ (g : Segment). raise a.shift (within g)) side in
+    let next = raise_next a.shift _ _ _ (λ i. within (side_of a.side (share i))) c.loop-b.b c.shifted-g.result c.keep_segment.ensures c.loop-b.invariant.2 raised in
+    (omega (arith, c.loop-b.invariant.0), omega (arith, c.loop-b.invariant.1), next)
 
 pub returns : goal.returns
 returns c =
