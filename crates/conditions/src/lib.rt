@@ -23,14 +23,12 @@ pub fn owner<'a>(table: &'a [u8], bases: &'a [u32], count: usize, i: u32) -> usi
     requires count_bound { count ≤ 256 }
     ensures { Owns (width (net_of table.now)) count i result }
 {
-    let mut b: usize = 0;
-    while b < count {
+    for b in 0..count {
         if i < tally::number(bases, b + 1) {
             return b;
         }
-        b = b + 1;
     }
-    b
+    count
 }
 
 // What stands behind an unfolded condition's number.

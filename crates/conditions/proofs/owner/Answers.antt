@@ -1,5 +1,6 @@
 -- `conditions::owner` meets its contract.
 use native.Mathlib.Omega.{arith}
+use mathlib.Core.Path.{◌≡◌}
 use Rattle.model.specs.Numbering.{width}
 use Rattle.table.specs.Decoded.{net_of}
 use Rattle.conditions.proofs.Origins.{next_base, next_sum}
@@ -11,16 +12,13 @@ loop-b-init c =
 
 pub returns-then-i-number : goal.returns-then-i-number
 returns-then-i-number c =
-    record { most = omega arith; from = c.loop-b.invariant.1; below = λ h. omega (arith, next_base (width (net_of c.args.table.now)) c.args.count c.args.bases.now c.requires.sums c.loop-b.b (omega arith), c.number.ensures, c.if-i-number.true) }
-
-pub loop-b-smaller : goal.loop-b-smaller
-loop-b-smaller c =
-    omega arith
+    record { most = omega arith; from = c.loop-b.invariant; below = λ h. omega (arith, next_base (width (net_of c.args.table.now)) c.args.count c.args.bases.now c.requires.sums c.loop-b.b (omega arith), c.number.ensures, c.if-i-number.true) }
 
 pub loop-b-preserved : goal.loop-b-preserved
 loop-b-preserved c =
-    (omega arith, next_sum (width (net_of c.args.table.now)) c.loop-b.b c.args.i (omega (arith, next_base (width (net_of c.args.table.now)) c.args.count c.args.bases.now c.requires.sums c.loop-b.b (omega arith), c.number.ensures, c.if-i-number.false)))
+    next_sum (width (net_of c.args.table.now)) c.loop-b.b c.args.i (omega (arith, next_base (width (net_of c.args.table.now)) c.args.count c.args.bases.now c.requires.sums c.loop-b.b (omega arith), c.number.ensures, c.if-i-number.false))
 
 pub returns : goal.returns
 returns c =
-    record { most = omega arith; from = c.loop-b.invariant.1; below = λ h. absurd (omega arith) }
+    let all : c.loop-b.b ≡ c.args.count = omega arith in
+    record { most = omega arith; from = rw (← all) c.loop-b.invariant; below = λ h. absurd (omega arith) }
