@@ -31,7 +31,8 @@ as_found None = refl
 as_found (Some b) = refl
 
 -- the same where an iterator finds it
-pub found_failing : (f : ℕ → Bool) (l : List ℕ) (r : Found ℕ) → option_map (λ x. x) r ≡ find (λ b. not (f b)) l → option_map (λ b. record { 0 = b }) r ≡ failing_of (failing f l)
+pub found_failing : (f : ℕ → Bool) (l : List ℕ) (r : Found ℕ) → option_map (λ x. x) r ≡ find (λ b. not (f b)) l
+    → option_map (λ b. record { 0 = b }) r ≡ failing_of (failing f l)
 found_failing f l r is = ap (option_map (λ b. record { 0 = b })) (sym (as_found r) ∙ is) ∙ first_failing f l
 
 -- bytes set in turn, of which b is the next one, and of which none is left
