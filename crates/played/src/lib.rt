@@ -96,13 +96,11 @@ pub fn play<'a>(
     }
     let kept = step::kept(table);
     let mut held = start;
-    let mut k: usize = 0;
-    while k < run.len() {
-        match move_event(table, n, offsets, run[k], kept, held) {
+    for (k, e) in run.iter().enumerate() {
+        match move_event(table, n, offsets, *e, kept, held) {
             Ok(next) => held = next,
             Err(cause) => return Err(cause.at(k)),
         }
-        k = k + 1;
     }
     Ok(held)
 }
