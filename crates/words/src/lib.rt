@@ -48,7 +48,12 @@ pub fn numbers(s: &[u8]) -> Numbers<'_>
 pub fn has(s: &[u8], number: usize) -> bool
     ensures { result ≡ mem number (words s.now) }
 {
-    numbers(s).any(|w| number == usize::from(w))
+    for pair in s.as_chunks::<2>().0 {
+        if number == usize::from(u16::from_le_bytes(*pair)) {
+            return true;
+        }
+    }
+    false
 }
 
 // Whether the numbers in s ascend, the last below n.
