@@ -37,25 +37,13 @@ pub fn raise(counts: &mut [u32], list: &[u8])
     }
 }
 
-// The same where there are 256 numbers, so that the first byte of a condition tells it.
-fn raise_low(counts: &mut [u32], list: &[u8])
-    requires room { Room counts.old list.now }
-    requires counts_len { length counts.old ≡ 256 }
-    ensures { counts.new ≡ raised counts.old (words list.now) }
-{
-    for b in words::numbers(list) {
-        let b = usize::from(b as u8);
-        counts[b] = counts[b] + 1;
-    }
-}
-
 // 1 for each condition of a list, 0 for every other.
 pub fn members(list: &[u8]) -> [u32; 256]
     requires { Listed list.now }
     ensures { Members (words list.now) result }
 {
     let mut counts = [0u32; 256];
-    raise_low(&mut counts, list);
+    raise(&mut counts, list);
     counts
 }
 
@@ -68,7 +56,7 @@ pub fn tally(table: &[u8], upto: usize, post: bool, first: u32, counts: &mut [u3
 {
     counts.fill(first);
     for event in table::events(table, upto) {
-        raise_low(counts, list_at(table, event.at, post));
+        raise(counts, list_at(table, event.at, post));
     }
 }
 
