@@ -96,11 +96,8 @@ fn write_list<'a>(
     requires { ListFits table.now users.now bases.now places.now (words list.now) out.old }
     ensures { Listed table.now users.now bases.now places.now (words list.now) (bit holds) out.old out.new }
 {
-    let mut i: usize = 0;
-    while 1 < list.len() - i {
-        let b = words::word(list, i) as usize;
-        write_marked(table, users, bases, places, b, holds, out);
-        i = i + 2;
+    for b in words::numbers(list) {
+        write_marked(table, users, bases, places, usize::from(b), holds, out);
     }
 }
 

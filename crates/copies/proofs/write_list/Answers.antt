@@ -1,29 +1,25 @@
 -- `copies::write_list` meets its contract.
-use native.Mathlib.Omega.{arith}
+use mathlib.Core.Path.{ap, ◌∙◌}
 use Rattle.model.specs.Lent.{bit}
+use Rattle.words.specs.Numbers.{numbers_left}
 use Rattle.copies.proofs.Ranges.{fits_same, listing_first, listing_here, listing_next, listing_end}
 use Rattle.copies.proofs.write_list.Goals as goal
 
-pub loop-i-init : goal.loop-i-init
-loop-i-init c =
-    (omega arith, listing_first c.args.table.now c.args.users.now c.args.bases.now c.args.places.now c.args.list.now (bit c.args.holds) c.args.out.now)
+pub loop-b-init : goal.loop-b-init
+loop-b-init c =
+    listing_first _ _ _ _ _ (bit c.args.holds) c.args.out.now _ (ap numbers_left c.into_iter-b-iterator.ensures.into_iter_gives ∙ c.numbers-b-items.ensures.left)
 
 pub write_marked-requires : goal.write_marked-requires
 write_marked-requires c =
-    λ p. fits_same _ _ c.args.out.now c.loop-i.out c.loop-i.invariant.1.same (c.requires c.word-b.result (listing_here c.args.table.now c.args.users.now c.args.bases.now c.args.places.now c.args.list.now (bit c.args.holds) c.args.out.now c.loop-i.out c.loop-i.i c.word-b.result (omega arith) c.word-b.ensures c.loop-i.invariant.1) p)
+    let i = c.loop-b.invariant in
+    let here = listing_here _ _ _ _ _ (bit c.args.holds) _ _ _ _ c.in-Some.b c.in-Some.ensures.steps i in
+    rw c.from.ensures (λ p. fits_same _ _ c.args.out.now c.loop-b.out i.same (c.requires c.in-Some.b here p))
 
-pub loop-i-smaller : goal.loop-i-smaller
-loop-i-smaller c =
-    omega arith
-
-pub loop-i-preserved : goal.loop-i-preserved
-loop-i-preserved c =
-    (omega arith, listing_next c.args.table.now c.args.users.now c.args.bases.now c.args.places.now c.args.list.now (bit c.args.holds) c.args.out.now c.loop-i.out c.loop-i.i c.word-b.result (omega arith) c.word-b.ensures c.loop-i.invariant.1 _ c.write_marked.ensures)
-
-pub shape_of-out : goal.shape_of-out
-shape_of-out c =
-    c.loop-i.invariant.1.same
+pub loop-b-preserved : goal.loop-b-preserved
+loop-b-preserved c =
+    let ranged = c.write_marked.ensures in
+    listing_next _ _ _ _ _ (bit c.args.holds) _ _ _ _ c.in-Some.b c.in-Some.ensures.steps c.loop-b.invariant _ (rw c.from.ensures at ranged)
 
 pub returns : goal.returns
 returns c =
-    listing_end c.args.table.now c.args.users.now c.args.bases.now c.args.places.now c.args.list.now (bit c.args.holds) c.args.out.now c.loop-i.out c.loop-i.i c.loop-i-test.false c.loop-i.invariant.1
+    listing_end _ _ _ _ _ (bit c.args.holds) _ _ _ c.in-None.ensures.steps.0 c.loop-b.invariant
