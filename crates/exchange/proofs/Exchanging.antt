@@ -30,6 +30,7 @@ use Rattle.played.specs.Begun.{begun_at}
 use Rattle.exchange.specs.Calls.{swapping, exchange_of, exchanged_of}
 use Rattle.apart.specs.Found.{Found}
 use Rattle.exchange.specs.Played.{Exchangeable}
+use Rattle.played.specs.declared.Ended.{Ended}
 use Rattle.played.specs.Played.{ended, Plays}
 use Rattle.game.specs.Calls.{leaves}
 
@@ -43,8 +44,8 @@ module _ (n : Net) where
   runs_take m (e ∷ r) zero t = tt
   runs_take m (e ∷ r) (suc k) t = runs_cons n m e (take k r) (runs_first n m e r t) (runs_take (fire n m e) r k (runs_rest n m e r t))
 
-fine_ended : (c : ℕ) (answer : Result (List ℕ) table.Refusal) → ended c answer ≡ Ok c → IsOk answer
-fine_ended c (Ok l) e = refl
+fine_ended : (c : ℕ) (answer : Result Ended table.Refusal) → ended answer ≡ Ok c → IsOk answer
+fine_ended c (Ok whole) e = refl
 fine_ended c (Err x) e = never_both (sym e)
 
 module _ (s : List ℕ) (n : ℕ) (offsets r : List ℕ) (k : ℕ) (x : Exchangeable s n offsets r k) where
@@ -55,7 +56,7 @@ module _ (s : List ℕ) (n : ℕ) (offsets r : List ℕ) (k : ℕ) (x : Exchange
   step_found i h = record { events = n; judged = x.judged; below = step_below i h; place = x.indexed.each (get_or r i 0) (step_below i h) }
 
   -- the steps before k are accepted
-  pub before_fine : (a : ℕ) → a ≡ k → (answer : Result (List ℕ) table.Refusal) → Plays (net_of s) (begin (net_of s)) (take a r) answer → IsOk answer
+  pub before_fine : (a : ℕ) → a ≡ k → (answer : Result Ended table.Refusal) → Plays (net_of s) (begin (net_of s)) (take a r) answer → IsOk answer
   unfolding begun_at
   before_fine a is_a answer p =
       let next = x.next in
@@ -64,11 +65,11 @@ module _ (s : List ℕ) (n : ℕ) (offsets r : List ℕ) (k : ℕ) (x : Exchange
       let q = subst (λ (y : ℕ). Plays (net_of s) (begin (net_of s)) (take y r) answer) is_a p in
       fine_ended (net_of s).conditions answer (q.told ∙ rw (short, free))
 
-  pub apart_asked : (a i : ℕ) → a ≡ k → i ≡ suc k → (answer : Result (List ℕ) table.Refusal) (l : List ℕ) → Plays (net_of s) (begin (net_of s)) (take a r) answer
-      → answer ≡ Ok l → apart (net_of s) (held_in l) (get_or r k 0) (get_or r i 0) ≡ apart_step (net_of s) (begin (net_of s)) r k
+  pub apart_asked : (a i : ℕ) → a ≡ k → i ≡ suc k → (answer : Result Ended table.Refusal) (l : Ended) → Plays (net_of s) (begin (net_of s)) (take a r) answer
+      → answer ≡ Ok l → apart (net_of s) (held_in l.held) (get_or r k 0) (get_or r i 0) ≡ apart_step (net_of s) (begin (net_of s)) r k
   unfolding apart_step
   apart_asked a i is_a is_i answer l p e =
-      ap (λ (y : ℕ). apart (net_of s) (held_in l) (get_or r k 0) (get_or r y 0)) is_i
+      ap (λ (y : ℕ). apart (net_of s) (held_in l.held) (get_or r k 0) (get_or r y 0)) is_i
       ∙ ap (λ (m : Marking). apart (net_of s) m (get_or r k 0) (get_or r (suc k) 0)) ((subst (λ (y : ℕ). Plays (net_of s) (begin (net_of s)) (take y r) answer) is_a p).reached l e)
 
 -- ---- whether there is a step k + 1
@@ -126,26 +127,26 @@ module _ (s r : List ℕ) (k : ℕ) where
         simp j (swapping_unless (too_long r) (exchanging (net_of s) r k)
         ∙ ap (refused_or (too_long r)) (swapping_unless (stuck of_table (replay (net_of s) 0 (opening (net_of s)) r)) (unless (no_step r k) (unless (not_apart (net_of s) r k) (run (exchanged k r))))))
 
-    module _ (answer : Result (List ℕ) table.Refusal) (p : Plays (net_of s) (begin (net_of s)) r answer) where
-      told : (a : Result (List ℕ) table.Refusal) → answer ≡ a
-          → refused_or (too_long r) (refused_or (stuck of_table (replay (net_of s) 0 (begun_at (net_of s) (begin (net_of s))) r)) (Ok (net_of s).conditions)) ≡ ended (net_of s).conditions a
-      told a e = sym p.told ∙ ap (ended (net_of s).conditions) e
+    module _ (answer : Result Ended table.Refusal) (p : Plays (net_of s) (begin (net_of s)) r answer) where
+      told : (a : Result Ended table.Refusal) → answer ≡ a
+          → refused_or (too_long r) (refused_or (stuck of_table (replay (net_of s) 0 (begun_at (net_of s) (begin (net_of s))) r)) (Ok (net_of s).conditions)) ≡ ended a
+      told a e = sym p.told ∙ ap ended e
 
       pub stopped_run : (x : table.Refusal) → answer ≡ Err x → (Err x ≡ exchange_of s r k) × (r ≡ exchanged_of s r k)
       stopped_run x e =
           kept_run (Err x) x refl
           (sym (told (Err x) e) ∙ links_refused (too_long r) (stuck of_table (replay (net_of s) 0 (begun_at (net_of s) (begin (net_of s))) r)) (net_of s).conditions rest x (told (Err x) e) ∙ sym chain)
 
-      module _ (l : List ℕ) (e : answer ≡ Ok l) where
+      module _ (l : Ended) (e : answer ≡ Ok l) where
         pub whole_run : T (runs (net_of s) (begin (net_of s)) r) × (length r ≤ most_steps)
         unfolding begun_at
         whole_run =
-            let (a, b) = links_open (too_long r) (stuck of_table (replay (net_of s) 0 (begun_at (net_of s) (begin (net_of s))) r)) (net_of s).conditions (net_of s).conditions (told (Ok l) e) in
+            let (a, b) = links_open (too_long r) (stuck of_table (replay (net_of s) 0 (begun_at (net_of s) (begin (net_of s))) r)) (net_of s).conditions l.conditions (told (Ok l) e) in
             (not_stuck of_table (net_of s) 0 (begun_at (net_of s) (begin (net_of s))) r b, short_length r a)
 
         goes : rest ≡ exchange_of s r k
         goes =
-            (links_fine (too_long r) (stuck of_table (replay (net_of s) 0 (begun_at (net_of s) (begin (net_of s))) r)) (net_of s).conditions (net_of s).conditions rest (told (Ok l) e)).1
+            (links_fine (too_long r) (stuck of_table (replay (net_of s) 0 (begun_at (net_of s) (begin (net_of s))) r)) (net_of s).conditions l.conditions rest (told (Ok l) e)).1
             ∙ sym chain
 
         pub no_step_lem : ltb (suc k) (length r) ≡ false → refused_at 10 k ≡ exchange_of s r k

@@ -31,7 +31,7 @@ fn apart_steps<'a>(
         offsets[e as usize],
         f,
         offsets[f as usize],
-        before,
+        before.held,
     )
 }
 

@@ -24,6 +24,7 @@ use Rattle.table.proofs.Links.{links_open, links_refused}
 use Rattle.table.proofs.Decoded.{events_are_all}
 use Rattle.layout.specs.Laid.{Laid}
 use Rattle.played.specs.Begun.{begun_at}
+use Rattle.played.specs.declared.Ended.{Ended}
 use Rattle.played.specs.Played.{ended, Plays}
 use Rattle.across.specs.Calls.{fitted, numbers_of, across_of}
 use Rattle.across.specs.Prepared.{prepared_of}
@@ -77,8 +78,8 @@ begun_opening : (n : Net) → begun_at n (begin n) ≡ opening n
 unfolding opening begun_at begin
 begun_opening n = refl
 
-module _ (s r : List ℕ) (answer : Result (List ℕ) declared.Refusal) (p : Plays (net_of s) (begin (net_of s)) r answer) where
-  told : ended (net_of s).conditions answer
+module _ (s r : List ℕ) (answer : Result Ended declared.Refusal) (p : Plays (net_of s) (begin (net_of s)) r answer) where
+  told : ended answer
       ≡ refused_or (too_long r) (refused_or (stuck of_table (replay (net_of s) 0 (opening (net_of s)) r)) (Ok (net_of s).conditions))
   told = p.told ∙ ap (λ (t : State). refused_or (too_long r) (refused_or (stuck of_table (replay (net_of s) 0 t r)) (Ok (net_of s).conditions))) (begun_opening (net_of s))
 
@@ -89,19 +90,19 @@ module _ (s r : List ℕ) (answer : Result (List ℕ) declared.Refusal) (p : Pla
   lift_stopped room {x} z o t =
       let st = stuck of_table (replay (net_of s) 0 (opening (net_of s)) r) in
       let a = unless (again (repeated (net_of s) (own_or_earliest (net_of s)) 0 (opening (net_of s)) r)) (run (lifted (net_of s) (own_or_earliest (net_of s)) (opening (net_of s)) r)) in
-      let stops = sym told ∙ ap (ended (net_of s).conditions) t in
+      let stops = sym told ∙ ap ended t in
       sym stops ∙ links_refused (too_long r) st (net_of s).conditions (fitted a room) x stops
       ∙ ap (λ (y : Option Refusal). refused_or y (refused_or st (fitted a room))) (across_open s r z).0
       ∙ sym (fitted_link st a room) ∙ sym (lift_across s r room ∙ o)
 
   -- else it is a run
-  pub lift_runs : (held : List ℕ) → answer ≡ Ok held → T (runs (net_of s) (begin (net_of s)) r)
+  pub lift_runs : (whole : Ended) → answer ≡ Ok whole → T (runs (net_of s) (begin (net_of s)) r)
   unfolding opening
-  lift_runs held t =
+  lift_runs whole t =
       let count = (net_of s).conditions in
-      let goes_on = sym told ∙ ap (ended count) t in
+      let goes_on = sym told ∙ ap ended t in
       let st = stuck of_table (replay (net_of s) 0 (opening (net_of s)) r) in
-      not_stuck of_table (net_of s) 0 (opening (net_of s)) r (links_open (too_long r) st count count goes_on).1
+      not_stuck of_table (net_of s) 0 (opening (net_of s)) r (links_open (too_long r) st count whole.conditions goes_on).1
 
 -- ---- a run lifted
 

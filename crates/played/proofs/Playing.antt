@@ -30,6 +30,7 @@ use Rattle.stopping.specs.Table.{Cause, stopped_at}
 use Rattle.game.proofs.Found.{stopped_is}
 use Rattle.model.specs.Lent.{bytes, marking}
 use Rattle.played.specs.Begun.{begun_at}
+use Rattle.played.specs.declared.Ended.{Ended}
 use Rattle.played.specs.Played.{ended, Plays}
 use Rattle.table.specs.Links.{refusing}
 use Rattle.model.proofs.Lent.{tidy_marking, marking_bytes}
@@ -109,21 +110,24 @@ module _ (n : Net) (m : Marking) (r : List ℕ) (k : ℕ) (held : List ℕ) (g :
       go (some v) e f = absurd f
 
   pub step_ends : length r ≤ most_steps → (x : Cause) → Moves (stopping n (held_in held) (get_or r k 0)) (fire n (held_in held) (get_or r k 0)) (Err x)
-      → (answer : Result (List ℕ) Refusal) → answer ≡ Err (refusal_at Table x k) → Plays n m r answer
+      → (answer : Result Ended Refusal) → answer ≡ Err (refusal_at Table x k) → Plays n m r answer
   step_ends short x moves answer a = go (stopping n (held_in held) (get_or r k 0)) refl moves
     where
       go : (o : Option Stop) → stopping n (held_in held) (get_or r k 0) ≡ o → Moves o (fire n (held_in held) (get_or r k 0)) (Err x) → Plays n m r answer
       go none e f = absurd f
       go (some v) e f =
-          let is : ended n.conditions answer ≡ refusing (stopped of_table v k) = ap (ended n.conditions) a ∙ ap (λ (y : Cause). stopped_at y k) f ∙ stopped_is v k in
+          let is : ended answer ≡ refusing (stopped of_table v k) = ap ended a ∙ ap (λ (y : Cause). stopped_at y k) f ∙ stopped_is v k in
           record { told = is ∙ rw (length_short r short, going_stop n m r k held g h v e); reached = λ y f. never_both (sym f ∙ a) }
 
 -- ---- a run that is too long, and one that comes to its end
 
-pub too_long_lem : (n : Net) (m : Marking) (r : List ℕ) → most_steps < length r → (answer : Result (List ℕ) Refusal) → answer ≡ refused_at 3 0 → Plays n m r answer
+pub too_long_lem : (n : Net) (m : Marking) (r : List ℕ) → most_steps < length r → (answer : Result Ended Refusal) → answer ≡ refused_at 3 0 → Plays n m r answer
 unfolding too_long
-too_long_lem n m r long answer a = record { told = ap (ended n.conditions) a ∙ rw (lt-leb (length r) most_steps long); reached = λ x f. never_both (sym f ∙ a) }
+too_long_lem n m r long answer a = record { told = ap ended a ∙ rw (lt-leb (length r) most_steps long); reached = λ x f. never_both (sym f ∙ a) }
 
-pub comes_to_end : (n : Net) (m : Marking) (r : List ℕ) (k : ℕ) (held : List ℕ) → Going n m r k held → length r ≤ k → length r ≤ most_steps → Plays n m r (Ok held)
-comes_to_end n m r k held g h short =
-    record { told = rw (length_short r short, going_free n m r k held g h) refl; reached = λ y f. ap held_in (sym (ok_is f)) ∙ going_end n m r k held g h }
+module _ (n : Net) (m : Marking) (r : List ℕ) (k : ℕ) (whole : Ended) (g : Going n m r k whole.held) (h : length r ≤ k) (short : length r ≤ most_steps) where
+  pub comes_to_end : whole.conditions ≡ n.conditions → Plays n m r (Ok whole)
+  comes_to_end c =
+      let reached : (y : Ended) → Ok whole ≡ Ok y → held_in y.held ≡ end n m r =
+          λ y f. ap (λ (e : Ended). held_in e.held) (sym (ok_is f)) ∙ going_end n m r k whole.held g h in
+      record { told = rw (length_short r short, going_free n m r k whole.held g h) (ap Ok c); reached = reached }

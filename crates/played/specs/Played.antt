@@ -11,6 +11,7 @@ use Rattle.table.specs.Links.{refused_or}
 use Rattle.held.specs.Held.{held_in}
 use Rattle.step.specs.Lent.{Lent}
 use Rattle.played.specs.Begun.{begun_at}
+use Rattle.played.specs.declared.Ended.{Ended}
 
 -- The first n numbers of a list are the offsets of the n events of a table.
 pub record Indexed (s : List ℕ) (n : ℕ) (l : List ℕ) : Type 0 where
@@ -25,13 +26,13 @@ pub record Playable (s : List ℕ) (n : ℕ) (offsets l : List ℕ) : Type 0 whe
   pub lents : Lent l
   pub room : (conditions s ≤ length l) × (length l ≤ 256)
 
--- The answer of a call that goes on with so many conditions where a run came to its end.
-abbrev pub ended : ℕ → Result (List ℕ) Refusal → Judged
-ended conditions (Ok held) = Ok conditions
-ended conditions (Err refusal) = Err refusal
+-- The answer that a run gives: the number of conditions where it came to its end.
+abbrev pub ended : Result Ended Refusal → Judged
+ended (Ok whole) = Ok whole.conditions
+ended (Err refusal) = Err refusal
 
 -- A run played from a marking: the answer is 3, then what its steps say, and where it is fine the words tell the marking at the end (01,
 -- Refusal numbers).
-pub record Plays (n : Net) (m : Marking) (r : List ℕ) (answer : Result (List ℕ) Refusal) : Type 0 where
-  pub told : ended n.conditions answer ≡ refused_or (too_long r) (refused_or (stuck of_table (replay n 0 (begun_at n m) r)) (Ok n.conditions))
-  pub reached : (held : List ℕ) → answer ≡ Ok held → held_in held ≡ end n m r
+pub record Plays (n : Net) (m : Marking) (r : List ℕ) (answer : Result Ended Refusal) : Type 0 where
+  pub told : ended answer ≡ refused_or (too_long r) (refused_or (stuck of_table (replay n 0 (begun_at n m) r)) (Ok n.conditions))
+  pub reached : (whole : Ended) → answer ≡ Ok whole → held_in whole.held ≡ end n m r

@@ -17,6 +17,13 @@ ghost use Rattle.played.specs.Played.{Indexed, Playable, Plays};
 use refusal::{Refusal, TableCondition};
 use stopping::Cause;
 
+// What a run comes to: how many conditions the table has, and the marking at its end.
+#[derive(Clone, Copy)]
+pub struct Ended {
+    pub conditions: usize,
+    pub held: [u64; 4],
+}
+
 // The offset of each event of a judged table, by its number.
 pub fn fill(table: &[u8], n: usize, offsets: &mut [usize])
     requires { (judge_of table.now ≡ Ok n) × (n ≤ length offsets.old) }
@@ -80,14 +87,14 @@ fn move_event<'a>(
     step::move_at(table, offsets[e as usize], kept, held)
 }
 
-// A run of a judged table played from a marking; fine: the marking that it comes to.
+// A run of a judged table played from a marking; fine: the number of conditions, and the marking that it comes to.
 pub fn play<'a>(
     table: &'a [u8],
     n: usize,
     offsets: &'a [usize],
     run: &'a [u16],
     start: [u64; 4],
-) -> Result<[u64; 4], Refusal>
+) -> Result<Ended, Refusal>
     requires { (judge_of table.now ≡ Ok n) × Indexed table.now n offsets.now }
     ensures { Plays (net_of table.now) (held_in start) run.now result }
 {
@@ -102,7 +109,10 @@ pub fn play<'a>(
             Err(cause) => return Err(cause.at(k)),
         }
     }
-    Ok(held)
+    Ok(Ended {
+        conditions: records::conditions(table) as usize,
+        held,
+    })
 }
 
 // The end of a run over the first bytes of a lent output, where it has room.

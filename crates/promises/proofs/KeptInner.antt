@@ -22,6 +22,7 @@ use Rattle.refusal.specs.declared.Condition.{Condition}
 use Rattle.refusal.specs.declared.Refusal.{Refusal}
 use Rattle.stopping.specs.declared.Cause as declared
 use Rattle.stopping.specs.Causes.{goes, cause_place, refusal_at, refusal_of}
+use Rattle.played.specs.declared.Ended.{Ended}
 use Rattle.played.specs.Played.{ended}
 use Rattle.step.specs.Steps.{record_net, stepped}
 use Rattle.game.specs.Calls.{on_marking}
@@ -97,11 +98,11 @@ play_refused κs a r x h =
     let run = a.1.1.1.0.now in
     let played = replay n 0 (begun_at n (held_in a.1.1.1.1.0)) run in
     let stuck_is = listed_or of_steps (stuck model.of_table played) _ (stuck_listed of_steps model.of_table played tt tt tt) tt in
-    go n.conditions r (rw h.told (listed_or of_steps (too_long run) _ (long_listed of_steps run tt) stuck_is))
+    go r (rw h.told (listed_or of_steps (too_long run) _ (long_listed of_steps run tt) stuck_is))
   where
-    go : (conditions : ℕ) (r : Result (List ℕ) Refusal) → T (listed of_steps (ended conditions r)) → T (listed of_steps r)
-    go conditions (Ok held) t = tt
-    go conditions (Err y) t = t
+    go : (r : Result Ended Refusal) → T (listed of_steps (ended r)) → T (listed of_steps r)
+    go (Ok whole) t = tt
+    go (Err y) t = t
 
 pub write_end_refused : (κs : _) (a : _) (r : _) (x : _) → write_end.Learnt κs a r x → Refusing (16 ∷ []) r a.1.1.0.now x.1.1.0.now
 write_end_refused κs a r x h =

@@ -16,24 +16,32 @@ use Rattle.held.specs.Held.{held_in}
 use Rattle.game.specs.Calls.{on_marking}
 use Rattle.played.specs.Begun.{begun_at}
 use Rattle.replay.specs.Calls.{played_of, replay_of, replay_from_of}
+use Rattle.played.specs.declared.Ended.{Ended}
 use Rattle.played.specs.Played.{ended, Plays}
+use Rattle.table.specs.Links.{refused_or}
 use Rattle.table.proofs.Links.{links_refused, links_fine}
 use Rattle.game.proofs.Marked.{on_then}
 
 -- ---- a run that was played, and its end with room for so many bytes
 
-module _ (n : Net) (m : Marking) (r : List ℕ) (answer : Result (List ℕ) table.Refusal) (p : Plays n m r answer) where
+module _ (n : Net) (m : Marking) (r : List ℕ) (answer : Result Ended table.Refusal) (p : Plays n m r answer) where
   pub tail_refused : (room : ℕ) (x : table.Refusal) → answer ≡ Err x → Err x ≡ played_of n (begun_at n m) r room
   unfolding played_of
   tail_refused room x e =
-      let told = sym p.told ∙ ap (ended n.conditions) e in
+      let told = sym p.told ∙ ap ended e in
       sym told ∙ links_refused (too_long r) (stuck of_table (replay n 0 (begun_at n m) r)) n.conditions (fitting n.conditions room) x told
 
-  pub tail_fine : (held : List ℕ) → answer ≡ Ok held → (room : ℕ) → fitting n.conditions room ≡ played_of n (begun_at n m) r room
-  unfolding played_of
-  tail_fine held e room =
-      let told = sym p.told ∙ ap (ended n.conditions) e in
-      (links_fine (too_long r) (stuck of_table (replay n 0 (begun_at n m) r)) n.conditions n.conditions (fitting n.conditions room) told).1
+  module _ (whole : Ended) (e : answer ≡ Ok whole) where
+    told_fine : Ok whole.conditions ≡ refused_or (too_long r) (refused_or (stuck of_table (replay n 0 (begun_at n m) r)) (Ok n.conditions))
+    told_fine = sym (ap ended e) ∙ p.told
+
+    pub tail_whole : whole.conditions ≡ n.conditions
+    tail_whole = (links_fine (too_long r) (stuck of_table (replay n 0 (begun_at n m) r)) n.conditions whole.conditions (Ok 0) (sym told_fine)).0
+
+    pub tail_fine : (room : ℕ) → fitting n.conditions room ≡ played_of n (begun_at n m) r room
+    unfolding played_of
+    tail_fine room =
+        (links_fine (too_long r) (stuck of_table (replay n 0 (begun_at n m) r)) n.conditions whole.conditions (fitting n.conditions room) (sym told_fine)).1
 
 -- ---- the calls, once the table and the lent marking are judged
 

@@ -27,8 +27,8 @@ fn replay_at<'a>(
 {
     let mut offsets = [0usize; 256];
     played::fill(table, n, &mut offsets);
-    let held = played::play(table, n, &offsets, run, start)?;
-    played::write_end(held, records::conditions(table) as usize, out)
+    let ended = played::play(table, n, &offsets, run, start)?;
+    played::write_end(ended.held, ended.conditions, out)
 }
 
 // A run replayed from the table's marking; its end is written to a lent output.

@@ -1,6 +1,7 @@
 -- `played::play` meets its contract.
-use mathlib.Core.Path.{ap}
+use mathlib.Core.Path.{ap, ◌∙◌}
 use Rattle.std.specs.Prelude.{Err}
+use Rattle.table.proofs.Decoded.{conditions_are_all}
 use Rattle.played.proofs.Playing.{going_start, step_on, step_ends, too_long_lem, comes_to_end}
 use Rattle.played.proofs.play.Goals as goal
 
@@ -22,4 +23,5 @@ loop-k-preserved c =
 
 pub returns : goal.returns
 returns c =
-    comes_to_end _ _ _ _ _ c.loop-k.invariant c.loop-k-test.false c.if-run-gt-MOST_STEPS.false
+    let all = c.conditions.ensures ∙ conditions_are_all _ _ c.requires.0 in
+    comes_to_end _ _ _ _ _ c.loop-k.invariant c.loop-k-test.false c.if-run-gt-MOST_STEPS.false all

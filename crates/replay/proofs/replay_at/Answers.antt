@@ -12,7 +12,7 @@ use Rattle.refusal.specs.Answer.{Judged, fitting, written}
 use Rattle.table.specs.Decoded.{net_of}
 use Rattle.table.proofs.Walk.{accepted}
 use Rattle.table.proofs.Decoded.{conditions_are_all}
-use Rattle.replay.proofs.Ends.{tail_refused, tail_fine}
+use Rattle.replay.proofs.Ends.{tail_refused, tail_whole, tail_fine}
 use Rattle.replay.proofs.replay_at.Goals as goal
 
 pub fill-requires : goal.fill-requires
@@ -24,11 +24,11 @@ pub play-requires : goal.play-requires
 play-requires c =
     (c.requires, c.fill.ensures)
 
-pub returns-in_err-held : goal.returns-in_err-held
-returns-in_err-held c =
-    let told : c.from_residual.result ≡ Err c.in_err-held.field-0.0 = search rules in
+pub returns-in_err-ended : goal.returns-in_err-ended
+returns-in_err-ended c =
+    let told : c.from_residual.result ≡ Err c.in_err-ended.field-0.0 = search rules in
     record {
-      answer = told ∙ tail_refused _ _ _ _ c.in_err-held.ensures _ _ refl;
+      answer = told ∙ tail_refused _ _ _ _ c.in_err-ended.ensures _ _ refl;
       after = rw told;
     }
 
@@ -36,9 +36,9 @@ pub returns : goal.returns
 returns c =
     let n = net_of c.args.table.now in
     let out = c.args.out.now in
-    let whole : c.conditions.result ≡ n.conditions = c.conditions.ensures ∙ conditions_are_all _ _ c.requires in
-    let reached = ap₂ bytes whole (c.in_ok-held.ensures.reached _ refl) in
+    let whole : c.in_ok-ended.ended.conditions ≡ n.conditions = tail_whole _ _ _ _ c.in_ok-ended.ensures _ refl in
+    let reached = ap₂ bytes whole (c.in_ok-ended.ensures.reached _ refl) in
     record {
-      answer = c.write_end.ensures.answer ∙ ap (λ (k : ℕ). fitting k (length out)) whole ∙ tail_fine _ _ _ _ c.in_ok-held.ensures _ refl (length out);
+      answer = c.write_end.ensures.answer ∙ ap (λ (k : ℕ). fitting k (length out)) whole ∙ tail_fine _ _ _ _ c.in_ok-ended.ensures _ refl (length out);
       after = c.write_end.ensures.after ∙ ap (λ (l : List ℕ). written c.write_end.result l out) reached;
     }
