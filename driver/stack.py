@@ -20,8 +20,8 @@ RED_ZONE = 128  # what a function may use below its stack pointer, by the conven
 OUTSIDE = {"memcpy", "memset"}
 
 # How many frames of a function that calls itself may stand at once: one for each persistent precondition that it goes down and one at
-# the end. A table that is not refused has at most 16 of them in an event. A number has at most 20 digits, each of which is put by a frame.
-FRAMES = {"decided::choose_down": 17, "spelling::put_number": 20}
+# the end. A table that is not refused has at most 16 of them in an event. A number has at most 20 digits, two of which are put by a frame.
+FRAMES = {"decided::choose_down": 17, "spelling::put_number": 10}
 
 LABEL = re.compile(r"[0-9a-f]+ <(.+)>:$")
 CODE = re.compile(r" *([0-9a-f]+):\t(.+?) *(?:#.*)?$")

@@ -2,9 +2,9 @@
 use Prim.Native.Nat.{ℕ, zero, suc, ◌+◌, ◌*◌, ◌/◌, ◌%◌, ◌≤◌, ◌<◌}
 use native.Mathlib.Decide.{dec_le}
 use native.Mathlib.Omega.{arith}
-use mathlib.Core.Path.{◌≡◌, refl}
+use mathlib.Core.Path.{◌≡◌, refl, ap}
 use mathlib.Core.Bool.{Bool, true, false}
-use mathlib.Core.List.{[], ◌∷◌, ◌++◌}
+use mathlib.Core.List.{List, [], ◌∷◌, ◌++◌}
 use borrow.Author.Tests.{lt-ltb, le-ltb, ltb-false}
 use lib.Dec.{ltb}
 use lib.ListN.{length, length-append}
@@ -35,6 +35,25 @@ one_digit_long n h = rw (one_digit n h)
 
 pub last_digit_long : (n : ℕ) → 9 < n → length (decimal n) ≡ length (decimal (n / 10)) + 1
 last_digit_long n h = rw (last_digit n h, length-append)
+
+-- Two digits are those of the tenth and of what is left.
+pub two_digits : (n : ℕ) → 9 < n → n < 100 → decimal n ≡ (48 + n / 10) ∷ (48 + n % 10) ∷ []
+two_digits n h few = rw (last_digit n h, one_digit (n / 10) (omega arith))
+
+pair_after : (l : List ℕ) (a b : ℕ) → (l ++ (a ∷ [])) ++ (b ∷ []) ≡ l ++ (a ∷ b ∷ [])
+pair_after [] a b = refl
+pair_after (x ∷ l) a b = ap {B = List ℕ} (λ r. x ∷ r) (pair_after l a b)
+
+-- The last two digits of a number stand after those of its hundredth.
+pub last_two : (n : ℕ) → 99 < n → decimal n ≡ decimal (n / 100) ++ ((48 + n % 100 / 10) ∷ (48 + n % 100 % 10) ∷ [])
+last_two n h =
+    let hundredth : n / 10 / 10 ≡ n / 100 = omega arith in
+    let tens : n / 10 % 10 ≡ n % 100 / 10 = omega arith in
+    let ones : n % 10 ≡ n % 100 % 10 = omega arith in
+    rw (last_digit n (omega arith), last_digit (n / 10) (omega arith), hundredth, tens, ones) (pair_after (decimal (n / 100)) _ _)
+
+pub last_two_long : (n : ℕ) → 99 < n → length (decimal n) ≡ length (decimal (n / 100)) + 2
+last_two_long n h = rw (last_two n h, length-append)
 
 -- Ten times the numbers have at most one digit more.
 abbrev Below : ℕ → ℕ → Type 0
