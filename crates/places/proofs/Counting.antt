@@ -80,7 +80,7 @@ placed_at slots e k places (x ∷ l) a f b =
 
 -- ---- one number at a time
 
-more_low : (places : List ℕ) (i m k : ℕ) → m ≤ 1 → ((b : ℕ) → get_or places b 0 ≤ k) → (b : ℕ) → get_or (set places i (get_or places i 0 + m)) b 0 ≤ k + 1
+pub more_low : (places : List ℕ) (i m k : ℕ) → m ≤ 1 → ((b : ℕ) → get_or places b 0 ≤ k) → (b : ℕ) → get_or (set places i (get_or places i 0 + m)) b 0 ≤ k + 1
 more_low places i m k s h b = go (ℕ_discrete b i) (dec_le (length places) i)
   where
     go : Dec (b ≡ i) → Dec (length places ≤ i) → get_or (set places i (get_or places i 0 + m)) b 0 ≤ k + 1

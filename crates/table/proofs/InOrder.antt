@@ -25,7 +25,7 @@ module _ (s : List ℕ) (e : ℕ) (h : e < (net_of s).events) where
   unfolding net_of
   judged = judged_if s (judge_of s) e h
 
-  event_fine : EventFine s (offset_of s e) (offset_of s (suc e))
+  pub event_fine : EventFine s (offset_of s e) (offset_of s (suc e))
   event_fine = (accepted s (net_of s).events judged).event e h
 
   pub next_offset : offset_of s (e + 1) ≡ offset_of s e + 4 + word_at s (offset_of s e)
