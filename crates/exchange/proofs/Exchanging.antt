@@ -11,7 +11,7 @@ use lib.Seq.{take_all, length-take-le}
 use borrow.Author.Tests.{le-ltb}
 use Rattle.lists.proofs.Bools.{iff}
 use Rattle.model.specs.Net.{Net, Marking, begin, fire}
-use Rattle.model.specs.Runs.{runs, end, opening, replay}
+use Rattle.model.specs.Runs.{runs, opening, replay}
 use Rattle.model.specs.Exchange.{apart, apart_step, exchanged}
 use Rattle.model.specs.Across.{of_table, Refusal, Answer, run, unless, stuck, most_steps, too_long, no_step, not_apart, exchanging, exchange}
 use Rattle.model.proofs.Firing.{runs_first, runs_rest, runs_cons, runs_event}

@@ -129,5 +129,5 @@ module _ (n : Net) (m : Marking) (r : List ℕ) (k : ℕ) (whole : Ended) (g : G
   pub comes_to_end : whole.conditions ≡ n.conditions → Plays n m r (Ok whole)
   comes_to_end c =
       let reached : (y : Ended) → Ok whole ≡ Ok y → held_in y.held ≡ end n m r =
-          λ y f. ap (λ (e : Ended). held_in e.held) (sym (ok_is f)) ∙ going_end n m r k whole.held g h in
+      λ y f. ap (λ (e : Ended). held_in e.held) (sym (ok_is f)) ∙ going_end n m r k whole.held g h in
       record { told = rw (length_short r short, going_free n m r k whole.held g h) (ap Ok c); reached = reached }

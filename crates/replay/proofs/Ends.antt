@@ -1,18 +1,16 @@
 -- A replay once its run was played: what it answers, and what it leaves in its lent output.
 use Prim.Native.Nat.{ℕ}
-use mathlib.Core.Path.{◌≡◌, sym, ap, ap₂, ◌∙◌}
+use mathlib.Core.Path.{◌≡◌, sym, ap, ◌∙◌}
 use mathlib.Core.List.{List}
-use lib.ListN.{length}
 use Rattle.model.specs.Net.{Net, Marking, begin}
-use Rattle.model.specs.Runs.{end, opening, replay}
+use Rattle.model.specs.Runs.{opening, replay}
 use Rattle.model.specs.Across.{of_table, stuck, too_long}
 use Rattle.refusal.specs.declared.Refusal as table
 use Rattle.std.specs.Prelude.{Result, Ok, Err}
 use Rattle.refusal.specs.Answer.{fitting}
 use Rattle.table.specs.Walk.{judge_of}
 use Rattle.table.specs.Decoded.{net_of}
-use Rattle.model.specs.Lent.{bytes, marking}
-use Rattle.held.specs.Held.{held_in}
+use Rattle.model.specs.Lent.{marking}
 use Rattle.game.specs.Calls.{on_marking}
 use Rattle.played.specs.Begun.{begun_at}
 use Rattle.replay.specs.Calls.{played_of, replay_of, replay_from_of}

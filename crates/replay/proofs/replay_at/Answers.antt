@@ -1,17 +1,15 @@
 -- `replay::replay_at` meets its contract.
 use Rattle.std.proofs.Common.{rules}
 use native.Mathlib.Omega.{arith}
-use mathlib.Core.Path.{◌≡◌, ◌∙◌, refl, sym, ap, ap₂}
+use mathlib.Core.Path.{◌≡◌, ◌∙◌, refl, ap, ap₂}
 use mathlib.Core.List.{List}
 use Prim.Native.Nat.{ℕ}
 use lib.ListN.{length}
 use Rattle.std.specs.Prelude.{Err}
 use Rattle.model.specs.Lent.{bytes}
-use Rattle.held.specs.Held.{held_in}
-use Rattle.refusal.specs.Answer.{Judged, fitting, written}
+use Rattle.refusal.specs.Answer.{fitting, written}
 use Rattle.table.specs.Decoded.{net_of}
 use Rattle.table.proofs.Walk.{accepted}
-use Rattle.table.proofs.Decoded.{conditions_are_all}
 use Rattle.replay.proofs.Ends.{tail_refused, tail_whole, tail_fine}
 use Rattle.replay.proofs.replay_at.Goals as goal
 
