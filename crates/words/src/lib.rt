@@ -44,16 +44,14 @@ pub fn numbers(s: &[u8]) -> Numbers<'_>
     Numbers { bytes: s }
 }
 
-// Whether a number is in s.
+// Whether a number is in s: its two bytes are looked for among the pairs of bytes, many pairs at a time.
 pub fn has(s: &[u8], number: usize) -> bool
     ensures { result ≡ mem number (words s.now) }
 {
-    for pair in s.as_chunks::<2>().0 {
-        if number == usize::from(u16::from_le_bytes(*pair)) {
-            return true;
-        }
+    match u16::try_from(number) {
+        Ok(number) => s.as_chunks::<2>().0.contains(&number.to_le_bytes()),
+        Err(_) => false,
     }
-    false
 }
 
 // Whether the numbers in s ascend, the last below n.
