@@ -7,7 +7,8 @@ use Rattle.copies.proofs.write_list.Goals as goal
 
 pub loop-b-init : goal.loop-b-init
 loop-b-init c =
-    listing_first _ _ _ _ _ (bit c.args.holds) c.args.out.now _ (ap numbers_left c.into_iter-b-iterator.ensures.into_iter_gives ∙ c.numbers-b-items.ensures.left)
+    let left = ap numbers_left c.into_iter-b-iterator.ensures.into_iter_gives ∙ c.numbers-b-items.ensures.left in
+    listing_first _ _ _ _ _ (bit c.args.holds) c.args.out.now _ left
 
 pub write_marked-requires : goal.write_marked-requires
 write_marked-requires c =
