@@ -27,7 +27,7 @@ fn put_two(out: &mut [u8], at: usize, n: usize) -> usize
     put(out, last, b'0' + (n % 10) as u8)
 }
 
-// A number put at a place, its last two digits after those of its hundredth; most numbers are below 1,000 and need no call of its own.
+// A number put at a place, its last two digits after those of its hundredth; below 1,000, as most numbers are, with no call of itself.
 pub fn put_number(out: &mut [u8], at: usize, n: usize) -> usize
     requires { at + 20 ≤ farthest }
     ensures { Put out.old at (decimal n) result out.new }
